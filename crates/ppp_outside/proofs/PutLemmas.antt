@@ -1,10 +1,11 @@
 -- Texts that are put one after another.
-use Rattle.std.proofs.Common.{◌≡◌, ℕ, ◌+◌, ◌≤◌, List, ◌++◌, length, Bool, true, false, ◌∙◌, ap, sym, arith, append_assoc}
+use Rattle.std.proofs.Common.{◌≡◌, ℕ, ◌+◌, ◌≤◌, List, [], ◌++◌, length, take, Bool, true, false, ◌∙◌, ap, sym, arith, append_assoc, append-nil}
+use Rattle.std.specs.Bool.{OnFalse, OnTrue}
 use Rattle.std.proofs.KnownBytes.{Appends-trans}
 use Rattle.std.proofs.Math.Seq.{take-append-add}
 use Rattle.std.proofs.lemmas.List.{length-append, take-append-le}
 use Rattle.ppp_outside.specs.Sink.{SinkState}
-use Rattle.ppp_outside.specs.Writing.{Breaks, Writes, HowPut, Pending, Puts}
+use Rattle.ppp_outside.specs.Writing.{Breaks, Writes, HowPut, Pending, Puts, fresh}
 
 -- one text after another
 pub writes_then : (old mid new : SinkState) (xs ys : List ℕ) → Writes old mid xs → Writes mid new ys → Writes old new (xs ++ ys)
@@ -49,3 +50,14 @@ how_then false false false u v w old mid new xs ys p q = q ∙ p
 pub puts_then : {before between after : Pending} {old mid new : SinkState} {xs ys : List ℕ} → Puts before between old mid xs → Puts between after mid new ys → Puts before after old new (xs ++ ys)
 puts_then {before} {between} {after} {old} {mid} {new} {xs} {ys} p q =
     record { how = how_then before.sound between.sound after.sound before.waiting between.waiting after.waiting old mid new xs ys p.how q.how }
+
+-- Where nothing waited before and nothing waits now, the text was written whole or broke off.
+pub whole_put : (old new : SinkState) (text : List ℕ) → Puts fresh (record { waiting = []; sound = true }) old new text → Writes old new text
+whole_put old new text put = rw (sym (append-nil put.how.0) ∙ put.how.2) at put.how.1
+
+pub part_put : (old new : SinkState) (text : List ℕ) → Puts fresh (record { waiting = []; sound = false }) old new text → Breaks old new text
+part_put old new text put = put.how
+
+pub all_put : (result : Bool) (old new : SinkState) (text : List ℕ) → Puts fresh (record { waiting = []; sound = result }) old new text → OnTrue result (Writes old new text) × OnFalse result (Breaks old new text)
+all_put true old new text put = (whole_put old new text put, tt)
+all_put false old new text put = (tt, part_put old new text put)

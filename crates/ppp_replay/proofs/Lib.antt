@@ -1,0 +1,4 @@
+pub mod GrammarLemmas
+pub mod LinesLemmas
+pub mod RunLemmas
+pub mod TraceLemmas
