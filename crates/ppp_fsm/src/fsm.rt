@@ -1,4 +1,4 @@
-ghost use Rattle.std.specs.Prelude.{◌≡◌, ◌<◌};
+ghost use Rattle.std.specs.Prelude.{◌≡◌, ◌-◌, ◌<◌};
 
 use crate::acts::Acts;
 use crate::event::FsmEvent;
@@ -6,16 +6,35 @@ use crate::state::State;
 use crate::steps;
 use std::marker::Model;
 
-/// How often a request is sent: the counter's first values.
+/// How often a request is sent before it is given up: the first values of the restart counter (RFC 1661, section
+/// 4.6). Both are at least 1, which the type keeps.
 #[derive(Clone, Copy)]
 pub struct Limits {
+    /// Max-Configure, for Configure-Requests.
     pub configure: u8,
+    /// Max-Terminate, for Terminate-Requests.
     pub terminate: u8,
     ghost configures: { 0 < configure },
     ghost terminates: { 0 < terminate },
 }
 
-/// The automaton of a layer.
+impl Limits {
+    /// The counter after a first Configure-Request.
+    pub(crate) fn configure_sent(self) -> u8
+        ensures { result ≡ self.configure - 1 }
+    {
+        self.configure - 1
+    }
+
+    /// The counter after a first Terminate-Request.
+    pub(crate) fn terminate_sent(self) -> u8
+        ensures { result ≡ self.terminate - 1 }
+    {
+        self.terminate - 1
+    }
+}
+
+/// The option negotiation automaton of one layer (RFC 1661, section 4).
 #[derive(Drop)]
 pub struct Fsm {
     limits: Limits,

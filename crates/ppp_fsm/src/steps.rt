@@ -1,6 +1,6 @@
 #![tactic(auto, unfolding(crate::specs::Fsm::acts_of, crate::specs::Fsm::after))]
 
-ghost use Rattle.std.specs.Prelude.{◌≡◌};
+ghost use Rattle.std.specs.Prelude.{◌≡◌, ◌-◌};
 ghost use Rattle.ppp_fsm.specs.Steps.{Makes};
 
 use crate::acts::{Act, Acts};
@@ -9,6 +9,9 @@ use crate::fsm::Limits;
 use crate::state::State;
 
 /// What one event does: the acts, the next state and the counter after it.
+///
+/// Each function below is one column of the table of RFC 1661, section 4.1. Its last arm is the events that can't
+/// occur in the state, which do nothing.
 #[derive(Drop)]
 pub(crate) struct Move {
     pub(crate) acts: Acts,
@@ -26,6 +29,13 @@ impl Move {
             counter,
         }
     }
+}
+
+/// The counter after a request that isn't the first.
+fn lowered(counter: u8) -> u8
+    ensures { result ≡ counter - 1 }
+{
+    counter.saturating_sub(1)
 }
 
 /// What an event does in Initial.
@@ -48,7 +58,7 @@ pub(crate) fn starting(limits: Limits, counter: u8, event: FsmEvent) -> Move
         FsmEvent::Up => Move::new(
             Acts::two(Act::Irc, Act::Scr),
             State::ReqSent,
-            limits.configure - 1,
+            limits.configure_sent(),
         ),
         FsmEvent::Open => Move::new(Acts::none(), State::Starting, counter),
         FsmEvent::Close => Move::new(Acts::one(Act::Tlf), State::Initial, counter),
@@ -65,7 +75,7 @@ pub(crate) fn closed(limits: Limits, counter: u8, event: FsmEvent) -> Move
         FsmEvent::Open => Move::new(
             Acts::two(Act::Irc, Act::Scr),
             State::ReqSent,
-            limits.configure - 1,
+            limits.configure_sent(),
         ),
         FsmEvent::Close | FsmEvent::Rta | FsmEvent::RxjGood | FsmEvent::Rxr => Move::new(
             Acts::none(),
@@ -95,12 +105,12 @@ pub(crate) fn stopped(limits: Limits, counter: u8, event: FsmEvent) -> Move
         FsmEvent::RcrGood => Move::new(
             Acts::three(Act::Irc, Act::Scr, Act::Sca),
             State::AckSent,
-            limits.configure - 1,
+            limits.configure_sent(),
         ),
         FsmEvent::RcrBad => Move::new(
             Acts::three(Act::Irc, Act::Scr, Act::Scn),
             State::ReqSent,
-            limits.configure - 1,
+            limits.configure_sent(),
         ),
         FsmEvent::Rca | FsmEvent::Rcn | FsmEvent::Rtr => Move::new(
             Acts::one(Act::Sta),
@@ -133,7 +143,7 @@ pub(crate) fn closing(limits: Limits, counter: u8, event: FsmEvent) -> Move
         FsmEvent::Timeout if counter > 0 => Move::new(
             Acts::one(Act::Str),
             State::Closing,
-            counter.saturating_sub(1),
+            lowered(counter),
         ),
         FsmEvent::Timeout => Move::new(Acts::one(Act::Tlf), State::Closed, counter),
         _ => Move::new(Acts::none(), State::Closing, counter),
@@ -160,7 +170,7 @@ pub(crate) fn stopping(limits: Limits, counter: u8, event: FsmEvent) -> Move
         FsmEvent::Timeout if counter > 0 => Move::new(
             Acts::one(Act::Str),
             State::Stopping,
-            counter.saturating_sub(1),
+            lowered(counter),
         ),
         FsmEvent::Timeout => Move::new(Acts::one(Act::Tlf), State::Stopped, counter),
         _ => Move::new(Acts::none(), State::Stopping, counter),
@@ -181,7 +191,7 @@ pub(crate) fn req_sent(limits: Limits, counter: u8, event: FsmEvent) -> Move
         FsmEvent::Close => Move::new(
             Acts::two(Act::Irc, Act::Str),
             State::Closing,
-            limits.terminate - 1,
+            limits.terminate_sent(),
         ),
         FsmEvent::RcrGood => Move::new(Acts::one(Act::Sca), State::AckSent, counter),
         FsmEvent::RcrBad => Move::new(Acts::one(Act::Scn), State::ReqSent, counter),
@@ -189,7 +199,7 @@ pub(crate) fn req_sent(limits: Limits, counter: u8, event: FsmEvent) -> Move
         FsmEvent::Rcn => Move::new(
             Acts::two(Act::Irc, Act::Scr),
             State::ReqSent,
-            limits.configure - 1,
+            limits.configure_sent(),
         ),
         FsmEvent::Rtr => Move::new(Acts::one(Act::Sta), State::ReqSent, counter),
         FsmEvent::Ruc => Move::new(Acts::one(Act::Scj), State::ReqSent, counter),
@@ -197,7 +207,7 @@ pub(crate) fn req_sent(limits: Limits, counter: u8, event: FsmEvent) -> Move
         FsmEvent::Timeout if counter > 0 => Move::new(
             Acts::one(Act::Scr),
             State::ReqSent,
-            counter.saturating_sub(1),
+            lowered(counter),
         ),
         FsmEvent::Timeout => Move::new(Acts::one(Act::Tlf), State::Stopped, counter),
         _ => Move::new(Acts::none(), State::ReqSent, counter),
@@ -214,14 +224,14 @@ pub(crate) fn ack_rcvd(limits: Limits, counter: u8, event: FsmEvent) -> Move
         FsmEvent::Close => Move::new(
             Acts::two(Act::Irc, Act::Str),
             State::Closing,
-            limits.terminate - 1,
+            limits.terminate_sent(),
         ),
         FsmEvent::RcrGood => Move::new(Acts::two(Act::Sca, Act::Tlu), State::Opened, counter),
         FsmEvent::RcrBad => Move::new(Acts::one(Act::Scn), State::AckRcvd, counter),
         FsmEvent::Rca | FsmEvent::Rcn => Move::new(
             Acts::one(Act::Scr),
             State::ReqSent,
-            counter.saturating_sub(1),
+            lowered(counter),
         ),
         FsmEvent::Rtr => Move::new(Acts::one(Act::Sta), State::ReqSent, counter),
         FsmEvent::Rta | FsmEvent::RxjGood => Move::new(Acts::none(), State::ReqSent, counter),
@@ -230,7 +240,7 @@ pub(crate) fn ack_rcvd(limits: Limits, counter: u8, event: FsmEvent) -> Move
         FsmEvent::Timeout if counter > 0 => Move::new(
             Acts::one(Act::Scr),
             State::ReqSent,
-            counter.saturating_sub(1),
+            lowered(counter),
         ),
         FsmEvent::Timeout => Move::new(Acts::one(Act::Tlf), State::Stopped, counter),
         _ => Move::new(Acts::none(), State::AckRcvd, counter),
@@ -251,7 +261,7 @@ pub(crate) fn ack_sent(limits: Limits, counter: u8, event: FsmEvent) -> Move
         FsmEvent::Close => Move::new(
             Acts::two(Act::Irc, Act::Str),
             State::Closing,
-            limits.terminate - 1,
+            limits.terminate_sent(),
         ),
         FsmEvent::RcrGood => Move::new(Acts::one(Act::Sca), State::AckSent, counter),
         FsmEvent::RcrBad => Move::new(Acts::one(Act::Scn), State::ReqSent, counter),
@@ -263,7 +273,7 @@ pub(crate) fn ack_sent(limits: Limits, counter: u8, event: FsmEvent) -> Move
         FsmEvent::Rcn => Move::new(
             Acts::two(Act::Irc, Act::Scr),
             State::AckSent,
-            limits.configure - 1,
+            limits.configure_sent(),
         ),
         FsmEvent::Rtr => Move::new(Acts::one(Act::Sta), State::ReqSent, counter),
         FsmEvent::Ruc => Move::new(Acts::one(Act::Scj), State::AckSent, counter),
@@ -271,7 +281,7 @@ pub(crate) fn ack_sent(limits: Limits, counter: u8, event: FsmEvent) -> Move
         FsmEvent::Timeout if counter > 0 => Move::new(
             Acts::one(Act::Scr),
             State::AckSent,
-            counter.saturating_sub(1),
+            lowered(counter),
         ),
         FsmEvent::Timeout => Move::new(Acts::one(Act::Tlf), State::Stopped, counter),
         _ => Move::new(Acts::none(), State::AckSent, counter),
@@ -288,22 +298,22 @@ pub(crate) fn opened(limits: Limits, counter: u8, event: FsmEvent) -> Move
         FsmEvent::Close => Move::new(
             Acts::three(Act::Tld, Act::Irc, Act::Str),
             State::Closing,
-            limits.terminate - 1,
+            limits.terminate_sent(),
         ),
         FsmEvent::RcrGood => Move::new(
             Acts::three(Act::Tld, Act::Scr, Act::Sca),
             State::AckSent,
-            counter.saturating_sub(1),
+            lowered(counter),
         ),
         FsmEvent::RcrBad => Move::new(
             Acts::three(Act::Tld, Act::Scr, Act::Scn),
             State::ReqSent,
-            counter.saturating_sub(1),
+            lowered(counter),
         ),
         FsmEvent::Rca | FsmEvent::Rcn | FsmEvent::Rta => Move::new(
             Acts::two(Act::Tld, Act::Scr),
             State::ReqSent,
-            counter.saturating_sub(1),
+            lowered(counter),
         ),
         FsmEvent::Rtr => Move::new(
             Acts::three(Act::Tld, Act::Zrc, Act::Sta),
@@ -314,7 +324,7 @@ pub(crate) fn opened(limits: Limits, counter: u8, event: FsmEvent) -> Move
         FsmEvent::RxjBad => Move::new(
             Acts::three(Act::Tld, Act::Irc, Act::Str),
             State::Stopping,
-            limits.terminate - 1,
+            limits.terminate_sent(),
         ),
         FsmEvent::Rxr => Move::new(Acts::one(Act::Ser), State::Opened, counter),
         _ => Move::new(Acts::none(), State::Opened, counter),
