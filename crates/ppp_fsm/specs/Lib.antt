@@ -1,0 +1,4 @@
+pub mod Fsm
+pub mod Opening
+pub mod State
+pub mod Steps

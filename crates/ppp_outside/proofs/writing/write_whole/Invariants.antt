@@ -1,0 +1,15 @@
+use Rattle.std.proofs.Common.{◌-◌, ◌≤◌, length, take}
+use Rattle.ppp_outside.specs.Writing.{Writes}
+use Rattle.ppp_outside.proofs.writing.write_whole.Given as goal
+
+-- The front of the text up to this place was written.
+abbrev pub invariant-writing : goal.invariant-writing
+invariant-writing g l =
+    let state = g.O.Sink.state in
+    record {
+      within : l.at ≤ length l.text;
+      front : Writes (state l.initial.output) (state l.output) (take l.at l.text);
+    }
+
+abbrev pub decreases-writing : goal.decreases-writing
+decreases-writing g l = length l.text - l.at
