@@ -32,9 +32,11 @@ module _ {S : Type 0} (runs : S → Option (List Ran)) where
   abbrev pub MachineTells : List Ran → (ℕ → HookArgs) → List HookMark → HookState S → Type 0
   MachineTells before given past m = IfSome m.spawner (λ s. Tells (runs s) before (ran_in m.target given past))
 
-  -- so is that of a spawner in a job
-  abbrev pub JobTells : List Ran → (ℕ → HookArgs) → List HookMark → JobState S → Type 0
-  JobTells before given past job = Tells (runs job.spawner) before (ran_in job.target given past)
+  -- This job is the one that was given last: its words are those of the last start,
+  -- and the record of its spawner is what it was when the spawner was handed in, and then just what has run in this past.
+  pub record GivenLast (before : List Ran) (given : ℕ → HookArgs) (past : List HookMark) (job : JobState S) : Type 0 where
+    pub words : words_in job.target given past ≡ Some job.words
+    pub told : Tells (runs job.spawner) before (ran_in job.target given past)
 
   -- The record of what came back is that of the job, and then one entry with the job's words and the answer that came back,
   -- or nothing where the script was not started.

@@ -11,6 +11,8 @@ mod facts;
 mod job;
 mod laws;
 mod machine;
+#[cfg(test)]
+mod tests;
 
 pub use facts::HookStart;
 pub use job::{HookDone, HookJob};

@@ -5,7 +5,7 @@ ghost use Rattle.ppp_hooks.specs.HookFacts.{StandsFor, HasArgs, settled, started
 ghost use Rattle.ppp_hooks.specs.HookMark.{HookMark, Opened, Closed, Ended};
 ghost use Rattle.ppp_hooks.specs.HookPast.{starts_in, ends_in, open_in, last_in};
 ghost use Rattle.ppp_hooks.specs.HookRule.{due_after, with_due};
-ghost use Rattle.ppp_hooks.specs.HookRuns.{MachineTells, JobTells, IsFaithful, ran_in};
+ghost use Rattle.ppp_hooks.specs.HookRuns.{MachineTells, GivenLast, IsFaithful};
 ghost use Rattle.ppp_hooks.specs.HookState.{JobState};
 ghost use Rattle.ppp_hooks.specs.HookWords.{words_of_start, words_in};
 
@@ -70,6 +70,8 @@ impl<S: Spawner> HookMachine<S> {
         ensures counts { (t f : ℕ) → MachineCounts S.tries S.faults t f self.old → MachineCounts S.tries S.faults t f self.new }
         ensures told { (before : List Ran) (given : ℕ → HookArgs) (past : List HookMark) → MachineTells S.runs before given past self.old
             → MachineTells S.runs before given (with_due (Opened n ∷ past)) self.new }
+        ensures out { (before : List Ran) (given : ℕ → HookArgs) (past : List HookMark) (job : JobState S) → StandsFor self.old.facts past
+            → self.old.spawner ≡ None → GivenLast S.runs before given past job → GivenLast S.runs before given (with_due (Opened n ∷ past)) job }
     {
         self.facts.opened(n, args);
     }
@@ -87,6 +89,8 @@ impl<S: Spawner> HookMachine<S> {
         ensures counts { (t f : ℕ) → MachineCounts S.tries S.faults t f self.old → MachineCounts S.tries S.faults t f self.new }
         ensures told { (before : List Ran) (given : ℕ → HookArgs) (past : List HookMark) (n : ℕ) → MachineTells S.runs before given past self.old
             → MachineTells S.runs before given (with_due (Closed n ∷ past)) self.new }
+        ensures out { (before : List Ran) (given : ℕ → HookArgs) (past : List HookMark) (n : ℕ) (job : JobState S) → StandsFor self.old.facts past
+            → self.old.spawner ≡ None → GivenLast S.runs before given past job → GivenLast S.runs before given (with_due (Closed n ∷ past)) job }
     {
         self.facts.closed();
     }
@@ -107,8 +111,8 @@ impl<S: Spawner> HookMachine<S> {
             → IfSome result (λ job. words_in self.old.target given past ≡ Some job.words) }
 
         ensures counts { (t f : ℕ) → MachineCounts S.tries S.faults t f self.old → IfSome result (JobCounts S.tries S.faults t f) }
-        ensures told { (before : List Ran) (given : ℕ → HookArgs) (past : List HookMark) → MachineTells S.runs before given past self.old
-            → IfSome result (JobTells S.runs before given past) }
+        ensures told { (before : List Ran) (given : ℕ → HookArgs) (past : List HookMark) → StandsFor self.old.facts past → HasArgs given self.old.facts
+            → MachineTells S.runs before given past self.old → IfSome result (GivenLast S.runs before given past) }
     {
         if self.facts.running().is_none() {
             return None;
@@ -139,8 +143,7 @@ impl<S: Spawner> HookMachine<S> {
 
         // Where what came back is faithful to the job that was given last, the record goes on by just this end.
         ensures told { (before : List Ran) (given : ℕ → HookArgs) (past : List HookMark) (job : JobState S) → StandsFor self.old.facts past
-            → job.target ≡ self.old.target → words_in self.old.target given past ≡ Some job.words
-            → JobTells S.runs before given past job → IsFaithful S.runs job done
+            → job.target ≡ self.old.target → GivenLast S.runs before given past job → IsFaithful S.runs job done
             → OnOk result (MachineTells S.runs before given (with_due (Ended done.answer done.number ∷ past)) self.new) }
 
         ensures unchanged { OnErr result (self.new ≡ self.old) }
