@@ -7,6 +7,7 @@ pub mod Headers
 pub mod Judging
 pub mod Lengths
 pub mod Parts
+pub mod Passing
 pub mod Quiet
 pub mod Quotient
 pub mod Steps

@@ -30,7 +30,6 @@ pub struct Deframer {
 }
 
 impl Model for Deframer {
-    ghost use Rattle.std.specs.Prelude.{length, ◌≤◌};
     ghost use Rattle.ppp_hdlc.specs.Deframing.{Deframing};
 
     ghost Value = { Deframing };

@@ -50,6 +50,7 @@ fn settings_at(settings: &SendSettings, protocol: u16, information: &[u8]) -> Se
     }
 }
 
+/// Appends a frame under just these settings, where it fits.
 fn enclose(
     settings: SendSettings,
     protocol: u16,
@@ -70,7 +71,7 @@ fn enclose(
     true
 }
 
-/// The FCS of these octets, as it is sent.
+/// The check sum of these octets, as it is sent: the low octet first.
 fn back_of(front: &[u8], information: &[u8]) -> [u8; 2]
     ensures { result ≡ fcs_octets (front.now ++ information.now) }
 {
@@ -124,7 +125,7 @@ fn has_room(free: usize, map: u32, front: &[u8], information: &[u8], back: &[u8]
     room_after(room, map, back).is_some()
 }
 
-/// The room that is left when these octets were written, escaped, where they fit.
+/// The room that these octets, escaped, leave, where they fit.
 fn room_after(room: usize, map: u32, octets: &[u8]) -> Option<usize>
     ensures { SomeIff result (length (escaped map octets.now) ≤ room) (room - length (escaped map octets.now)) }
 {
@@ -146,12 +147,14 @@ fn width_of(map: u32, octet: u8) -> usize
     if must_escape(map, octet) { 2 } else { 1 }
 }
 
+/// Whether the octet is sent behind an escape.
 fn must_escape(map: u32, octet: u8) -> bool
     ensures { result ≡ is_escaped map octet }
 {
     octet == ESCAPE || octet == FLAG || is_mapped(map, octet)
 }
 
+/// Appends these octets, escaped.
 fn push_escaped(map: u32, octets: &[u8], out: &mut HeapCircularBuffer<u8>)
     requires { length out.old.items + length (escaped map octets.now) ≤ out.old.capacity }
     ensures { out.new ≡ buffer (out.old.items ++ escaped map octets.now) out.old.capacity }
@@ -161,6 +164,7 @@ fn push_escaped(map: u32, octets: &[u8], out: &mut HeapCircularBuffer<u8>)
     }
 }
 
+/// Appends one octet, escaped where it must be.
 fn push_octet(map: u32, octet: u8, out: &mut HeapCircularBuffer<u8>)
     requires { length out.old.items + length (escape map octet) ≤ out.old.capacity }
     ensures { out.new ≡ buffer (out.old.items ++ escape map octet) out.old.capacity }
@@ -173,6 +177,7 @@ fn push_octet(map: u32, octet: u8, out: &mut HeapCircularBuffer<u8>)
     }
 }
 
+/// Appends one octet as it is.
 fn push(octet: u8, out: &mut HeapCircularBuffer<u8>)
     requires { length out.old.items < out.old.capacity }
     ensures { out.new ≡ buffer (out.old.items ++ octet ∷ []) out.old.capacity }

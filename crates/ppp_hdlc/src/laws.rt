@@ -1,10 +1,11 @@
 //! What is true of the definitions, each proved of a function that does nothing.
 
-ghost use Rattle.std.specs.Prelude.{◌≡◌, ℕ, ◌+◌, ◌-◌, ◌≤◌, Bool, List, [], ◌∷◌, ◌++◌, length, take};
+ghost use Rattle.std.specs.Prelude.{◌≡◌, ℕ, ◌+◌, ◌-◌, ◌≤◌, ◌↔◌, Bool, List, [], ◌∷◌, ◌++◌, length, take};
 ghost use Rattle.ppp_base.specs.declared.send_settings.SendSettings.{SendSettings as Settings};
-ghost use Rattle.ppp_hdlc.specs.Frames.{Received, Frames, stamped};
+ghost use Rattle.ppp_hdlc.specs.Frames.{Received, Frames, answer, stamped};
 ghost use Rattle.ppp_hdlc.specs.Encoding.{encoding, settings_for, with_fcs};
 ghost use Rattle.ppp_hdlc.specs.Arrives.{Arrives, IsFramable, IsWithin, framed_length};
+ghost use Rattle.ppp_hdlc.specs.IsRight.{IsRight};
 ghost use Rattle.ppp_hdlc.specs.Residue.{Residue, good_residue, remainder};
 ghost use Rattle.ppp_hdlc.specs.Register.{register_after};
 ghost use Rattle.ppp_hdlc.specs.Quotient.{IsDivision};
@@ -33,6 +34,13 @@ pub fn frames_arrive()
         length information + 3 ≤ framed_length settings protocol information }
     ensures at_most { (settings : Settings) (protocol : ℕ) (information : List ℕ) →
         framed_length settings protocol information ≤ length information + 6 }
+{}
+
+/// A frame is answered at a flag exactly where the octets before it end with no escape, are 4 to
+/// 1,508 after unescaping, have a right check sum, and begin with this protocol.
+pub fn right_frames_pass()
+    ensures { (part : List ℕ) (protocol : ℕ) (information : List ℕ) →
+        (answer part ≡ Heard.Frame protocol information) ↔ IsRight part protocol information }
 {}
 
 /// Octets with their check sum behind them leave the good residue (RFC 1662, C.1).
