@@ -6,7 +6,7 @@ use Rattle.ppp_base.specs.declared.send_settings.SendSettings.{SendSettings}
 use Rattle.ppp_hdlc.specs.Frames.{Received}
 use Rattle.ppp_hdlc.specs.Encoding.{encoding, settings_for, with_fcs, body}
 
--- a protocol whose octets can be told from what may stand before them (RFC 1661, 2)
+-- a protocol whose octets can be told from what may stand before them (RFC 1661, 2 and 6.6)
 pub record IsFramable (protocol : ℕ) : Type 0 where
   pub first_is_even : protocol / 256 % 2 ≡ 0
   pub second_is_odd : protocol % 256 % 2 ≡ 1

@@ -1,10 +1,10 @@
--- How a frame is written (RFC 1662, 3 and 4; RFC 1661, 6.5 and 6.6).
+-- How a frame is written (RFC 1662, 3 and 4; RFC 1661, 5, 6.5 and 6.6).
 use Rattle.std.specs.Prelude.{ℕ, ◌/◌, ◌%◌, ◌==◌, ◌&&◌, ◌||◌, nat_lt, Bool, false, not, if◌then◌else◌, List, [], ◌∷◌, ◌++◌, flat_map, bit_xor}
 use Rattle.ppp_base.specs.declared.send_settings.SendSettings.{SendSettings}
 use Rattle.ppp_hdlc.specs.Octets.{is_flag, is_escape, is_mapped}
 use Rattle.ppp_hdlc.specs.Residue.{fcs_of}
 
--- LCP's packets of the codes 1 to 7 are written in the plain way, whatever was agreed (RFC 1662, 7.1; RFC 1661, 6.5).
+-- LCP's packets of the codes 1 to 7 are written in the plain way, whatever was agreed (RFC 1661, 5).
 abbrev pub has_basic_code : List ℕ → Bool
 has_basic_code [] = false
 has_basic_code (code ∷ octets) = nat_lt 0 code && nat_lt code 8

@@ -12,7 +12,7 @@ use Rattle.ppp_hdlc.specs.declared.heard.Heard.TheVariants.{Nothing, Frame, Drop
 abbrev pub Received : Type 0
 Received = ℕ × ℕ
 
--- whether the octet is no part of what was sent: the map in force has its bit set (RFC 1662, 7.1)
+-- whether the octet is no part of what was sent: the map in force has its bit set (RFC 1662, 4.2)
 abbrev pub is_removed : Received → Bool
 is_removed received = is_mapped received.1 received.0
 
@@ -26,7 +26,8 @@ closed_parts [] = []
 closed_parts (part ∷ []) = []
 closed_parts (part ∷ next ∷ parts) = part ∷ closed_parts (next ∷ parts)
 
--- From the left, each escape is left out, and the octet behind it is XORed with 20 (hexadecimal).
+-- From the left, each escape is left out, and the octet behind it is XORed with 20 (hexadecimal)
+-- (RFC 1662, 4.2).
 unfoldable pub unescaped : List ℕ → List ℕ
 unescaped [] = []
 unescaped (octet ∷ []) = if is_escape octet then [] else octet ∷ []
@@ -46,7 +47,7 @@ abbrev pub without_address : List ℕ → List ℕ
 without_address octets = if starts_with nat_eq octets (0xff ∷ 0x03 ∷ []) then drop 2 octets else octets
 
 -- The protocol, and the information behind it: one odd octet, or an even octet and then an odd one
--- (RFC 1661, 2 and 6.5).
+-- (RFC 1661, 2 and 6.5); one octet ff is none (RFC 1661, 6.6).
 abbrev pub behind_even : ℕ → List ℕ → Option (ℕ × List ℕ)
 behind_even first [] = None
 behind_even first (second ∷ information) = if second % 2 == 1 then Some (first * 256 + second, information) else None
@@ -58,7 +59,7 @@ protocol_of (first ∷ octets) = if first == 0xff then None else (if first % 2 =
 abbrev pub content : List ℕ → Option (ℕ × List ℕ)
 content octets = protocol_of (without_address (without_fcs octets))
 
--- whether a part is dropped for this reason
+-- whether a part is dropped for this reason (RFC 1662, 4.2 and 4.3)
 abbrev pub applies : List ℕ → Reason → Bool
 applies part Aborted = ends_escaping part
 applies part TooLong = nat_lt 1508 (length (unescaped part))

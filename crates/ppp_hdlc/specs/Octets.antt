@@ -2,7 +2,7 @@
 use Rattle.std.specs.Prelude.{ℕ, ◌==◌, ◌&&◌, nat_lt, Bool}
 use Rattle.std.specs.Int.{bit_at}
 
--- the flag that begins and ends a frame (RFC 1662, 3.1)
+-- the flag that begins and ends a frame (RFC 1662, 4.1)
 abbrev pub is_flag : ℕ → Bool
 is_flag octet = octet == 0x7e
 

@@ -1,4 +1,4 @@
--- The register by which RFC 1662 computes the frame check sequence (appendix C.2).
+-- The register by which RFC 1662 computes the frame check sequence (appendix C).
 use Rattle.std.specs.Prelude.{ℕ, Bool, false, if◌then◌else◌, List, [], ◌∷◌, ◌++◌, fold, flat_map}
 use Rattle.ppp_hdlc.specs.Residue.{bits, number, plus, divisor, xor}
 

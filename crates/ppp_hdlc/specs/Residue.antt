@@ -52,6 +52,6 @@ Residue octets = number (remainder (with_first_complemented (flat_map (bits 8) o
 abbrev pub fcs_of : List ℕ → ℕ
 fcs_of octets = 65535 - Residue octets
 
--- the residue of octets with their frame check sequence behind them (RFC 1662, C.1)
+-- the residue of octets with their frame check sequence behind them (RFC 1662, C.2)
 abbrev pub good_residue : ℕ
 good_residue = 0xf0b8

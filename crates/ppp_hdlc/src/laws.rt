@@ -43,12 +43,12 @@ pub fn right_frames_pass()
         (answer part ≡ Heard.Frame protocol information) ↔ IsRight part protocol information }
 {}
 
-/// Octets with their check sum behind them leave the good residue (RFC 1662, C.1).
+/// Octets with their check sum behind them leave the good residue (RFC 1662, C.2).
 pub fn good_residue_is_left()
     ensures { (octets : List ℕ) → Residue (with_fcs octets) ≡ good_residue }
 {}
 
-/// The register of RFC 1662, C.2, begun with all ones, leaves the remainder of the division.
+/// The register of RFC 1662, appendix C, begun with all ones, leaves the remainder of the division.
 pub fn register_leaves_residue()
     ensures { (octets : List ℕ) → Residue octets ≡ register_after 0xffff octets }
 {}

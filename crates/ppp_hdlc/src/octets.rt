@@ -1,7 +1,7 @@
 ghost use Rattle.std.specs.Prelude.{◌≡◌};
 ghost use Rattle.ppp_hdlc.specs.Octets.{is_mapped};
 
-/// Begins and ends a frame (RFC 1662, 3.1).
+/// Begins and ends a frame (RFC 1662, 4.1).
 pub(crate) const FLAG: u8 = 0x7e;
 
 /// Changes the octet behind it (RFC 1662, 4.2).
