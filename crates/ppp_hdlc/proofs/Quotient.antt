@@ -1,0 +1,134 @@
+-- The long division gives a quotient and a remainder.
+use Rattle.std.proofs.Common.{◌≡◌, ℕ, zero, suc, ◌≤◌, Bool, true, false, cond, List, [], ◌∷◌, ◌++◌, length, replicate, refl, sym, ap, ◌∙◌, arith, length-append, append_assoc, append-nil}
+use Rattle.std.specs.Prelude.{fold}
+use Rattle.ppp_hdlc.specs.Residue.{plus, xor, zeros, divisor, bring_down, remainder}
+use Rattle.ppp_hdlc.specs.Quotient.{scaled, times_divisor, IsDivision}
+use Rattle.ppp_hdlc.proofs.Bits.{plus-nil, plus-nil_right, plus-cons, plus-append, length-plus}
+use Rattle.ppp_hdlc.proofs.Division.{bring_down-cons, length-divisor, zeros-is}
+
+xor-assoc : (x y z : Bool) → xor (xor x y) z ≡ xor x (xor y z)
+xor-assoc true true true = refl
+xor-assoc true true false = refl
+xor-assoc true false true = refl
+xor-assoc true false false = refl
+xor-assoc false y z = refl
+
+plus-assoc : (xs ys zs : List Bool) → plus (plus xs ys) zs ≡ plus xs (plus ys zs)
+plus-assoc [] ys zs = rw (plus-nil ys, plus-nil zs, plus-nil (plus ys zs)) refl
+plus-assoc (x ∷ xs) [] zs = rw (plus-nil_right (x ∷ xs), plus-nil zs, plus-nil_right (x ∷ xs)) refl
+plus-assoc (x ∷ xs) (y ∷ ys) [] = rw (plus-cons x y xs ys, plus-nil_right (xor x y ∷ plus xs ys), plus-nil_right (y ∷ ys), plus-nil_right (x ∷ xs)) refl
+plus-assoc (x ∷ xs) (y ∷ ys) (z ∷ zs) =
+    rw (plus-cons x y xs ys, plus-cons (xor x y) z (plus xs ys) zs, plus-cons y z ys zs, plus-cons x (xor y z) xs (plus ys zs), xor-assoc x y z)
+    (ap (λ l. xor x (xor y z) ∷ l) (plus-assoc xs ys zs))
+
+plus-zeros_left : (n : ℕ) (xs : List Bool) → length xs ≤ n → plus (replicate n false) xs ≡ xs
+plus-zeros_left zero [] short = plus-nil_right (replicate 0 false)
+plus-zeros_left zero (x ∷ xs) short = absurd (omega arith)
+plus-zeros_left (suc n) [] short = plus-nil_right (replicate (suc n) false)
+plus-zeros_left (suc n) (x ∷ xs) short = plus-cons false x (replicate n false) xs ∙ ap (λ l. x ∷ l) (plus-zeros_left n xs (omega arith))
+
+xor_self : (b : Bool) → xor b b ≡ false
+xor_self true = refl
+xor_self false = refl
+
+plus-self : (xs : List Bool) → plus xs xs ≡ replicate (length xs) false
+plus-self [] = plus-nil []
+plus-self (x ∷ xs) = plus-cons x x xs xs ∙ rw (xor_self x, plus-self xs) refl
+
+-- what is taken away twice is there again
+plus-back : (xs ds : List Bool) → length xs ≡ length ds → plus ds (plus xs ds) ≡ xs
+plus-back [] [] same = plus-nil (plus [] [])
+plus-back [] (d ∷ ds) same = absurd (omega arith)
+plus-back (x ∷ xs) [] same = absurd (omega arith)
+plus-back (x ∷ xs) (d ∷ ds) same = rw (plus-cons x d xs ds, plus-cons d (xor x d) ds (plus xs ds), back x d) (ap (λ l. x ∷ l) (plus-back xs ds (omega arith)))
+  where
+    back : (x d : Bool) → xor d (xor x d) ≡ x
+    back true true = refl
+    back true false = refl
+    back false true = refl
+    back false false = refl
+
+scaled-true : (k : ℕ) → scaled true k ≡ true ∷ (divisor ++ replicate k false)
+unfolding scaled
+scaled-true k = refl
+
+scaled-false : (k : ℕ) → scaled false k ≡ false ∷ (zeros ++ replicate k false)
+unfolding scaled
+scaled-false k = refl
+
+-- a step of the division takes away the divisor, scaled by the highest bit
+step : (t u : Bool) (r d : List Bool) → length r ≡ 15 → (t ∷ r) ++ u ∷ d ≡ plus (scaled t (length d)) (false ∷ (bring_down (t ∷ r) u ++ d))
+step true u r d wide =
+    let sixteen : length (r ++ u ∷ []) ≡ length divisor = length-append r (u ∷ []) ∙ omega (arith, length-divisor) in
+    let same : length divisor ≡ length (plus (r ++ u ∷ []) divisor) = sym (length-plus (r ++ u ∷ []) divisor sixteen ∙ sixteen) in
+    sym (rw (
+      scaled-true (length d),
+      bring_down-cons true r u,
+      plus-cons true false (divisor ++ replicate (length d) false) (plus (r ++ u ∷ []) divisor ++ d),
+      plus-append divisor (plus (r ++ u ∷ []) divisor) (replicate (length d) false) d same,
+      plus-back (r ++ u ∷ []) divisor sixteen,
+      plus-zeros_left (length d) d (omega arith),
+    )
+    (ap (λ l. true ∷ l) (append_assoc r (u ∷ []) d)))
+step false u r d wide =
+    let sixteen : length (r ++ u ∷ []) ≡ 16 = length-append r (u ∷ []) ∙ omega arith in
+    let same : length (replicate 16 false) ≡ length (r ++ u ∷ []) = sym sixteen in
+    sym (rw (
+      scaled-false (length d),
+      zeros-is,
+      bring_down-cons false r u,
+      plus-cons false false (replicate 16 false ++ replicate (length d) false) ((r ++ u ∷ []) ++ d),
+      plus-append (replicate 16 false) (r ++ u ∷ []) (replicate (length d) false) d same,
+      plus-zeros_left 16 (r ++ u ∷ []) (omega arith),
+      plus-zeros_left (length d) d (omega arith),
+    )
+    (ap (λ l. false ∷ l) (append_assoc r (u ∷ []) d)))
+
+times-nil : times_divisor [] ≡ zeros
+unfolding times_divisor
+times-nil = refl
+
+times-cons : (t : Bool) (q : List Bool) → times_divisor (t ∷ q) ≡ plus (scaled t (length q)) (false ∷ times_divisor q)
+unfolding times_divisor
+times-cons t q = refl
+
+length-down : (t u : Bool) (r : List Bool) → length r ≡ 15 → length (bring_down (t ∷ r) u) ≡ 16
+length-down t u r wide =
+    let sixteen : length (r ++ u ∷ []) ≡ 16 = length-append r (u ∷ []) ∙ omega arith in
+    rw (bring_down-cons t r u)
+    (elim t as (λ b. length (cond b (plus (r ++ u ∷ []) divisor) (r ++ u ∷ [])) ≡ 16) [ true ↦ length-plus (r ++ u ∷ []) divisor (sixteen ∙ sym length-divisor) ∙ sixteen | false ↦ sixteen ])
+
+-- a quotient of what is left, and its rest
+record Left (r d : List Bool) : Type 0 where
+  quotient : List Bool
+  as_long : length quotient ≡ length d
+  lower : length (fold bring_down r d) ≡ 16
+  sum : r ++ d ≡ plus (times_divisor quotient) (replicate (length d) false ++ fold bring_down r d)
+
+left : (r d : List Bool) → length r ≡ 16 → Left r d
+left r [] wide = record {
+  quotient = [];
+  as_long = refl;
+  lower = wide;
+  sum = append-nil r ∙ sym (ap (λ l. plus l r) (times-nil ∙ zeros-is) ∙ plus-zeros_left 16 r (omega arith));
+}
+left [] (u ∷ d) wide = absurd (omega arith)
+left (t ∷ r) (u ∷ d) wide =
+    let more : Left (bring_down (t ∷ r) u) d = left (bring_down (t ∷ r) u) d (length-down t u r (omega arith)) in
+    record {
+      quotient = t ∷ more.quotient;
+      as_long = ap suc more.as_long;
+      lower = more.lower;
+      sum = step t u r d (omega arith)
+          ∙ ap (λ l. plus (scaled t (length d)) (false ∷ l)) more.sum
+          ∙ ap (λ l. plus (scaled t (length d)) l) (sym (plus-cons false false (times_divisor more.quotient) (replicate (length d) false ++ fold bring_down (bring_down (t ∷ r) u) d)))
+          ∙ sym (plus-assoc (scaled t (length d)) (false ∷ times_divisor more.quotient) (false ∷ (replicate (length d) false ++ fold bring_down (bring_down (t ∷ r) u) d)))
+          ∙ ap (λ k. plus (plus (scaled t k) (false ∷ times_divisor more.quotient)) (false ∷ (replicate (length d) false ++ fold bring_down (bring_down (t ∷ r) u) d))) (sym more.as_long)
+          ∙ ap (λ l. plus l (false ∷ (replicate (length d) false ++ fold bring_down (bring_down (t ∷ r) u) d))) (sym (times-cons t more.quotient));
+    }
+
+pub division : (dividend : List Bool) → (quotient : List Bool) × IsDivision dividend quotient (remainder dividend)
+unfolding remainder
+division dividend =
+    let l : Left zeros dividend = left zeros dividend (ap length zeros-is) in
+    (l.quotient, record { is_lower = l.lower; is_sum = l.sum })

@@ -1,0 +1,10 @@
+pub mod Arrives
+pub mod Deframing
+pub mod Encoding
+pub mod Frames
+pub mod IsRight
+pub mod Octets
+pub mod Quotient
+pub mod Register
+pub mod Residue
+pub use Rattle.circular_buffer.specs.Buffer

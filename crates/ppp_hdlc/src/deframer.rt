@@ -1,0 +1,192 @@
+ghost use Rattle.std.specs.Prelude.{◌≡◌, ◌≢◌, ℕ, ◌<◌, ◌≤◌, ◌==◌, Bool, if◌then◌else◌, List, [], ◌∷◌, ◌++◌, length, option_map, IfOk, IfSome};
+ghost use Rattle.ppp_hdlc.specs.Frames.{Received, Frames, answer, protocol_of, without_address};
+ghost use Rattle.ppp_hdlc.specs.Octets.{is_flag};
+ghost use Rattle.ppp_hdlc.specs.Deframing.{StandsFor, KeepsPart, fresh};
+
+use crate::checksum::residue_of;
+use crate::heard::Heard;
+use crate::octets::{ESCAPE, ESCAPE_BIT, FLAG, is_mapped};
+use crate::reason::Reason;
+use ppp_base::{Frame, MOST_FRAME, NoMemory};
+use std::alloc::Global;
+use std::marker::Model;
+
+/// The least number of octets in a frame: a protocol, an information and the check sum.
+const LEAST_FRAME: usize = 4;
+
+/// What octets with a right check sum behind them leave.
+const GOOD_RESIDUE: u16 = 0xf0b8;
+
+/// The receiving map before one is agreed.
+const DEFAULT_MAP: u32 = 0xffff_ffff;
+
+/// Finds the frames in a stream of octets. Its room is taken when it is made.
+#[derive(Drop)]
+pub struct Deframer {
+    map: u32,
+    octets: Box<Frame>,
+    is_over: bool,
+    is_escaping: bool,
+}
+
+impl Model for Deframer {
+    ghost use Rattle.ppp_hdlc.specs.Deframing.{Deframing};
+
+    ghost Value = { Deframing };
+
+    ghost view = { λ d. record { map = d.map; octets = d.octets.value; is_over = d.is_over; is_escaping = d.is_escaping } };
+}
+
+impl Deframer {
+    /// At the beginning of a stream, with a receiving map of all ones.
+    #[tactic(auto, unfolding(crate::specs::Frames::unescaped, crate::specs::Frames::ends_escaping))]
+    pub fn new(alloc: Global) -> Result<Deframer, NoMemory>
+        ensures fresh { IfOk result (λ d. d ≡ fresh) }
+        ensures stands { IfOk result (λ d. StandsFor d []) }
+    {
+        let octets = Box::new(alloc, Frame::new())?;
+        Ok(Deframer {
+            map: DEFAULT_MAP,
+            octets,
+            is_over: false,
+            is_escaping: false,
+        })
+    }
+
+    /// The receiving map for the octets that follow. What has come since the last flag stays.
+    pub fn set_map(&mut self, map: u32)
+        ensures map { self.new ≡ record self.old { map = map } }
+        ensures stands { (stream : List Received) → StandsFor self.old stream → StandsFor self.new stream }
+    {
+        self.map = map;
+    }
+
+    /// Leaves it as `new` makes it, at the beginning of another stream, its map too.
+    #[tactic(auto, unfolding(crate::specs::Frames::unescaped, crate::specs::Frames::ends_escaping))]
+    pub fn restart(&mut self)
+        ensures fresh { self.new ≡ fresh }
+        ensures stands { StandsFor self.new [] }
+    {
+        self.map = DEFAULT_MAP;
+        self.clear();
+    }
+
+    /// Takes the next octet of the stream. The answer is about the octets since the last flag, and
+    /// comes at a flag alone. Octets before the first flag are judged like the others.
+    pub fn feed(&mut self, octet: u8) -> Heard
+        ensures map { self.new.map ≡ self.old.map }
+        ensures stands { (stream : List Received) → StandsFor self.old stream → StandsFor self.new (stream ++ (octet, self.old.map) ∷ []) }
+        ensures answer { (stream : List Received) → StandsFor self.old stream →
+            Frames (stream ++ (octet, self.old.map) ∷ []) ≡ Frames stream ++ (if is_flag octet then result ∷ [] else []) }
+        ensures quiet { octet ≢ 0x7e → result ≡ Heard.Nothing }
+    {
+        if octet == FLAG {
+            let heard = judge(self.octets.as_slice(), self.is_over, self.is_escaping);
+            self.clear();
+            heard
+        } else {
+            self.take(octet);
+            Heard::Nothing
+        }
+    }
+
+    /// Begins an empty part.
+    #[tactic(auto, unfolding(crate::specs::Frames::unescaped, crate::specs::Frames::ends_escaping))]
+    fn clear(&mut self)
+        ensures fresh { self.new ≡ record fresh { map = self.old.map } }
+        ensures empty { KeepsPart self.new.octets self.new.is_over self.new.is_escaping [] }
+    {
+        self.octets.clear();
+        self.is_over = false;
+        self.is_escaping = false;
+    }
+
+    /// Takes an octet that is no flag.
+    fn take(&mut self, octet: u8)
+        requires { octet ≢ 0x7e }
+        ensures map { self.new.map ≡ self.old.map }
+        ensures stands { (stream : List Received) → StandsFor self.old stream → StandsFor self.new (stream ++ (octet, self.old.map) ∷ []) }
+    {
+        if is_mapped(self.map, octet) {
+            return;
+        }
+        if self.is_escaping {
+            self.is_escaping = false;
+            self.keep(octet ^ ESCAPE_BIT);
+        } else if octet == ESCAPE {
+            self.is_escaping = true;
+        } else {
+            self.keep(octet);
+        }
+    }
+
+    /// Keeps an octet of the part, while there is room.
+    fn keep(&mut self, octet: u8)
+        ensures map { self.new.map ≡ self.old.map }
+        ensures escaping { self.new.is_escaping ≡ self.old.is_escaping }
+        ensures octets { self.new.octets ≡ (if length self.old.octets == 1508 then self.old.octets else self.old.octets ++ octet ∷ []) }
+        ensures over { self.new.is_over ≡ (if length self.old.octets == 1508 then Bool.true else self.old.is_over) }
+    {
+        if self.octets.len() == MOST_FRAME {
+            self.is_over = true;
+        } else {
+            self.octets.push(octet);
+        }
+    }
+}
+
+/// What a flag behind a part ends.
+fn judge(octets: &[u8], is_over: bool, is_escaping: bool) -> Heard
+    requires { length octets.now ≤ 1508 }
+    ensures { (part : List ℕ) → KeepsPart octets.now is_over is_escaping part → result ≡ answer part }
+{
+    if is_escaping {
+        return Heard::Dropped(Reason::Aborted);
+    }
+    if is_over {
+        return Heard::Dropped(Reason::TooLong);
+    }
+    if octets.is_empty() {
+        return Heard::Nothing;
+    }
+    if octets.len() < LEAST_FRAME {
+        return Heard::Dropped(Reason::Short);
+    }
+    if residue_of(octets) != GOOD_RESIDUE {
+        return Heard::Dropped(Reason::BadFcs);
+    }
+    match content(&octets[..octets.len() - 2]) {
+        None => Heard::Dropped(Reason::BadHeader),
+        Some((protocol, information)) => Heard::Frame(protocol, frame_of(information)),
+    }
+}
+
+/// The protocol and the information of octets without their check sum.
+fn content(octets: &[u8]) -> Option<(u16, &[u8])>
+    ensures found { option_map (λ found. (found.0, found.1.now)) result ≡ protocol_of (without_address octets.now) }
+    ensures within { IfSome result (λ found. length found.1.now ≤ length octets.now) }
+{
+    let octets = match octets {
+        [0xff, 0x03, others @ ..] => others,
+        _ => octets,
+    };
+    match octets {
+        [] => None,
+        [0xff, ..] => None,
+        [first, information @ ..] if first % 2 == 1 => Some((u16::from(*first), information)),
+        [first, second, information @ ..] if second % 2 == 1 => {
+            Some((u16::from(*first) * 256 + u16::from(*second), information))
+        }
+        _ => None,
+    }
+}
+
+/// The information as a frame's octets.
+fn frame_of(information: &[u8]) -> Frame
+    requires { length information.now ≤ 1508 }
+    ensures { result ≡ information.now }
+{
+    let mut frame = Frame::new();
+    frame.append(information);
+    frame
+}
