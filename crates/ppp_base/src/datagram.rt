@@ -116,6 +116,14 @@ impl From<Datagram> for ArrayVec<u8, 2048> {
     }
 }
 
+impl Default for Datagram {
+    ghost is_default = { λ a. a ≡ [] };
+
+    fn default() -> Datagram {
+        Datagram::new()
+    }
+}
+
 impl PartialEq for Datagram {
     ghost use Rattle.std.specs.Prelude.{nat_eq};
     ghost use Rattle.std.specs.Cmp.{partial_equiv_from_equiv};

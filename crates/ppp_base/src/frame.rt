@@ -116,6 +116,14 @@ impl From<Frame> for ArrayVec<u8, 1508> {
     }
 }
 
+impl Default for Frame {
+    ghost is_default = { λ a. a ≡ [] };
+
+    fn default() -> Frame {
+        Frame::new()
+    }
+}
+
 impl PartialEq for Frame {
     ghost use Rattle.std.specs.Prelude.{nat_eq};
     ghost use Rattle.std.specs.Cmp.{partial_equiv_from_equiv};

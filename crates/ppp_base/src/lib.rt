@@ -15,6 +15,8 @@ mod random_words;
 mod send_settings;
 mod signal_word;
 mod stepped;
+#[cfg(test)]
+mod tests;
 mod unit;
 
 pub use allow::Allow;

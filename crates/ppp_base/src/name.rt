@@ -116,6 +116,14 @@ impl From<Name> for ArrayVec<u8, 255> {
     }
 }
 
+impl Default for Name {
+    ghost is_default = { λ a. a ≡ [] };
+
+    fn default() -> Name {
+        Name::new()
+    }
+}
+
 impl PartialEq for Name {
     ghost use Rattle.std.specs.Prelude.{nat_eq};
     ghost use Rattle.std.specs.Cmp.{partial_equiv_from_equiv};

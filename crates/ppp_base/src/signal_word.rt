@@ -1,14 +1,14 @@
 /// A signal that the daemon hears.
 #[derive(Clone, Copy, Debug, PartialEq, Eq)]
 pub enum SignalWord {
-    /// The line is lost.
+    /// It ends a session, or at once the wait for the next one.
     Hup,
-    /// Terminate.
+    /// It stops the link.
     Int,
-    /// Terminate.
+    /// It stops the link.
     Term,
-    /// The debug output is turned on.
+    /// It has no effect.
     Usr1,
-    /// Compression is negotiated anew.
+    /// It has no effect.
     Usr2,
 }

@@ -1,6 +1,6 @@
 -- Octet by octet, until all are read or two are no digits.
-use Rattle.std.proofs.Common.{◌≡◌, ◌/◌, ◌+◌, ◌<◌, ◌≤◌, length, arith, rules, subst, sym, refl}
-use Rattle.ppp_base.proofs.HexLemmas.{IsReadTo, read_none, read_one, read_text, read_octets, no_digits}
+use Rattle.std.proofs.Common.{◌≡◌, ◌/◌, ◌+◌, length, arith, subst, sym, refl}
+use Rattle.ppp_base.proofs.HexLemmas.{IsReadTo, read_none, read_one, read_text, read_octets}
 use Rattle.ppp_base.proofs.hex.read_hex.Goals as goal
 
 pub reading-init : goal.reading-init
