@@ -1,0 +1,4 @@
+pub mod Disc
+pub mod Hex
+pub mod Mrru
+pub mod RandomWords

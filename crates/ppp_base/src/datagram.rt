@@ -115,3 +115,31 @@ impl From<Datagram> for ArrayVec<u8, 2048> {
         datagram.octets
     }
 }
+
+impl Default for Datagram {
+    ghost is_default = { λ a. a ≡ [] };
+
+    fn default() -> Datagram {
+        Datagram::new()
+    }
+}
+
+impl PartialEq for Datagram {
+    ghost use Rattle.std.specs.Prelude.{nat_eq};
+    ghost use Rattle.std.specs.Cmp.{partial_equiv_from_equiv};
+    ghost use Rattle.std.specs.Cmp.Lexicographic.{pointwise, nat_list_eq_equiv};
+
+    ghost eq = { λ a b. pointwise nat_eq a b };
+
+    ghost laws = { partial_equiv_from_equiv nat_list_eq_equiv };
+
+    fn eq(&self, other: &Datagram) -> bool {
+        self.as_slice() == other.as_slice()
+    }
+}
+
+impl Eq for Datagram {
+    ghost use Rattle.std.specs.Cmp.Lexicographic.{nat_list_eq_equiv};
+
+    ghost laws = { nat_list_eq_equiv };
+}

@@ -115,3 +115,31 @@ impl From<Frame> for ArrayVec<u8, 1508> {
         frame.octets
     }
 }
+
+impl Default for Frame {
+    ghost is_default = { λ a. a ≡ [] };
+
+    fn default() -> Frame {
+        Frame::new()
+    }
+}
+
+impl PartialEq for Frame {
+    ghost use Rattle.std.specs.Prelude.{nat_eq};
+    ghost use Rattle.std.specs.Cmp.{partial_equiv_from_equiv};
+    ghost use Rattle.std.specs.Cmp.Lexicographic.{pointwise, nat_list_eq_equiv};
+
+    ghost eq = { λ a b. pointwise nat_eq a b };
+
+    ghost laws = { partial_equiv_from_equiv nat_list_eq_equiv };
+
+    fn eq(&self, other: &Frame) -> bool {
+        self.as_slice() == other.as_slice()
+    }
+}
+
+impl Eq for Frame {
+    ghost use Rattle.std.specs.Cmp.Lexicographic.{nat_list_eq_equiv};
+
+    ghost laws = { nat_list_eq_equiv };
+}

@@ -1,0 +1,7 @@
+-- What the words' stream answers.
+use Rattle.std.proofs.Common.{rules}
+use Rattle.rand_core.proofs.StepsLemmas.{meets_fill_bytes}
+use Rattle.ppp_base.proofs.random_words.RandomWordsRng.fill_bytes.Goals as goal
+
+pub returns : goal.returns
+returns c = meets_fill_bytes _ _ _ _ _ (search rules)

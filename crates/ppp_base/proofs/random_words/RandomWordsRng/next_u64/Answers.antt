@@ -1,0 +1,7 @@
+-- What the words' stream answers.
+use Rattle.std.proofs.Common.{rules}
+use Rattle.rand_core.proofs.StepsLemmas.{meets_next_u64}
+use Rattle.ppp_base.proofs.random_words.RandomWordsRng.next_u64.Goals as goal
+
+pub returns : goal.returns
+returns c = meets_next_u64 _ _ _ _ (search rules)

@@ -1,0 +1,71 @@
+ghost use Rattle.std.specs.Prelude.{◌≡◌, ℕ};
+ghost use Rattle.rand_core.specs.Stream.{next_u32};
+ghost use Rattle.rand_core.specs.Steps.{stream_of, steps_u32};
+ghost use Rattle.ppp_base.specs.RandomWords.{next_state, next_word, word_step};
+
+use rand_core::utils::NextWord;
+use rand_core::{Rng, utils};
+use std::marker::Model;
+
+/// The generator of random words. Contracts see it as its state.
+#[derive(Clone, Copy, Debug, PartialEq, Eq)]
+pub struct RandomWords {
+    state: u64,
+}
+
+impl Model for RandomWords {
+    ghost Value = { ℕ };
+
+    ghost view = { λ words. words.state };
+
+    ghost inverse = { λ s. record { state = s } };
+}
+
+impl RandomWords {
+    /// The generator at this state. Its first word is not the state's but the next one's.
+    pub fn new(state: u64) -> RandomWords
+        ensures { result ≡ state }
+    {
+        RandomWords { state }
+    }
+
+    /// The state, from which the same words come again.
+    pub fn state(&self) -> u64
+        ensures { result ≡ self.now }
+    {
+        self.state
+    }
+}
+
+impl NextWord<u32> for RandomWords {
+    ghost step = { word_step };
+
+    fn next_word(&mut self) -> u32 {
+        self.state = self
+            .state
+            .wrapping_mul(6364136223846793005)
+            .wrapping_add(1442695040888963407);
+        (self.state >> 32) as u32
+    }
+}
+
+impl Rng for RandomWords {
+    ghost stream = { stream_of (steps_u32 word_step) };
+
+    fn next_u32(&mut self) -> u32
+        ensures answer { (result, stream_of (steps_u32 word_step) self.new)
+            ≡ next_u32 (stream_of (steps_u32 word_step) self.old) }
+        ensures word { result ≡ next_word self.old }
+        ensures state { self.new ≡ next_state self.old }
+    {
+        self.next_word()
+    }
+
+    fn next_u64(&mut self) -> u64 {
+        utils::next_u64_via_u32(self)
+    }
+
+    fn fill_bytes(&mut self, dst: &mut [u8]) {
+        utils::fill_bytes_via_u32(self, dst)
+    }
+}

@@ -1,0 +1,5 @@
+use Rattle.std.proofs.Common.{◌≡◌, drop}
+use Rattle.ppp_packet.proofs.options.OptionList.get.Given as goal
+
+abbrev pub invariant-passing : goal.invariant-passing
+invariant-passing l = l.walk ≡ drop l._passed l.self

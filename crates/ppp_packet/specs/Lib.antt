@@ -1,0 +1,3 @@
+pub mod OptionList
+pub mod OptionsOf
+pub mod PacketOf

@@ -1,0 +1,19 @@
+//! Control packets and their options, read and written (RFC 1661, sections 5 and 6), and what PAP and CHAP answer with them.
+#![tactic(auto)]
+
+mod auth_out;
+mod body;
+mod fault;
+mod item_body;
+pub mod laws;
+mod option_item;
+mod options;
+mod packet;
+
+pub use auth_out::{AuthOut, AuthOutcome};
+pub use body::{Body, MOST_BODY};
+pub use fault::{OptionFault, PacketFault};
+pub use item_body::{ItemBody, MOST_ITEM_BODY};
+pub use option_item::OptionItem;
+pub use options::{OptionList, Options, Seen, Walk};
+pub use packet::Packet;
