@@ -16,5 +16,5 @@ mod tests;
 
 pub use facts::HookStart;
 pub use job::{HookDone, HookJob};
-pub use laws::{law_of_calls, law_of_past};
+pub use laws::{closing_while_up_runs, law_of_calls, law_of_past};
 pub use machine::HookMachine;
