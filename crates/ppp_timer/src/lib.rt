@@ -1,0 +1,8 @@
+//! Deadlines: for each purpose of a link or a unit at most one moment, and which of them is due first.
+#![tactic(auto)]
+
+mod deadlines;
+mod slot;
+
+pub use deadlines::Deadlines;
+pub use slot::Slot;
