@@ -173,7 +173,7 @@ one_fault (i ∷ xs) [] a b f g e h k =
     absurd (no_item g i (laid xs ++ a) (subst (λ o. IsFault g o) (sym e ∙ append_assoc (laid_item i) (laid xs) a) k))
 one_fault (i ∷ xs) (j ∷ ys) a b f g e h k =
     let whole : i.kind ∷ (length i.body + 2) ∷ (i.body ++ (laid xs ++ a)) ≡ j.kind ∷ (length j.body + 2) ∷ (j.body ++ (laid ys ++ b)) =
-        sym (append_assoc (laid_item i) (laid xs) a) ∙ e ∙ append_assoc (laid_item j) (laid ys) b in
+    sym (append_assoc (laid_item i) (laid xs) a) ∙ e ∙ append_assoc (laid_item j) (laid ys) b in
     let sizes : length i.body + 2 ≡ length j.body + 2 = cc in
     let tails : i.body ++ (laid xs ++ a) ≡ j.body ++ (laid ys ++ b) = cc in
     one_fault xs ys a b f g (behind i.body j.body (laid xs ++ a) (laid ys ++ b) (omega (arith, sizes)) tails) h k

@@ -35,8 +35,10 @@ good_length octets p h bad = refute bad
   where
     field : length_field octets ≡ length p.body + 4
     field = ap length_field h.are ∙ omega arith
+
     all : length octets ≡ length p.body + 4 + length h.padding
     all = omega (arith, ap length h.are, length-append p.body h.padding)
+
     refute : HasBadLength octets → ⊥
     refute (inl low) = omega (arith, field, low)
     refute (inr (inl cut)) = omega (arith, field, all, cut)

@@ -3,6 +3,8 @@
 
 mod deadlines;
 mod slot;
+#[cfg(test)]
+mod tests;
 
 pub use deadlines::Deadlines;
 pub use slot::Slot;
