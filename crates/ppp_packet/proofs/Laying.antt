@@ -173,10 +173,26 @@ one_fault (i ∷ xs) [] a b f g e h k =
     absurd (no_item g i (laid xs ++ a) (subst (λ o. IsFault g o) (sym e ∙ append_assoc (laid_item i) (laid xs) a) k))
 one_fault (i ∷ xs) (j ∷ ys) a b f g e h k =
     let whole : i.kind ∷ (length i.body + 2) ∷ (i.body ++ (laid xs ++ a)) ≡ j.kind ∷ (length j.body + 2) ∷ (j.body ++ (laid ys ++ b)) =
-        sym (append_assoc (laid_item i) (laid xs) a) ∙ e ∙ append_assoc (laid_item j) (laid ys) b in
+    sym (append_assoc (laid_item i) (laid xs) a) ∙ e ∙ append_assoc (laid_item j) (laid ys) b in
     let sizes : length i.body + 2 ≡ length j.body + 2 = cc in
     let tails : i.body ++ (laid xs ++ a) ≡ j.body ++ (laid ys ++ b) = cc in
     one_fault xs ys a b f g (behind i.body j.body (laid xs ++ a) (laid ys ++ b) (omega (arith, sizes)) tails) h k
+
+no_end : (fault : OptionFault) → IsFault fault [] → ⊥
+no_end Cut h = h
+no_end BadLength h = h
+
+-- Whole options have no fault behind some of them.
+pub no_fault_behind : (xs ys : List Item) (rest : List ℕ) (fault : OptionFault) → laid xs ≡ laid ys ++ rest → IsFault fault rest → ⊥
+no_fault_behind [] [] rest fault e h = no_end fault (subst (λ o. IsFault fault o) (sym e) h)
+no_fault_behind [] (j ∷ ys) rest fault e h = cc
+no_fault_behind (i ∷ xs) [] rest fault e h = no_item fault i (laid xs) (subst (λ o. IsFault fault o) (sym e) h)
+no_fault_behind (i ∷ xs) (j ∷ ys) rest fault e h =
+    let whole : i.kind ∷ (length i.body + 2) ∷ (i.body ++ laid xs) ≡ j.kind ∷ (length j.body + 2) ∷ (j.body ++ (laid ys ++ rest)) =
+    e ∙ append_assoc (laid_item j) (laid ys) rest in
+    let sizes : length i.body + 2 ≡ length j.body + 2 = cc in
+    let tails : i.body ++ laid xs ≡ j.body ++ (laid ys ++ rest) = cc in
+    no_fault_behind xs ys rest fault (behind i.body j.body (laid xs) (laid ys ++ rest) (omega (arith, sizes)) tails) h
 
 -- the element behind those that are dropped
 pub get-drop : (xs : List Item) (n : ℕ) (x : Item) (rest : List Item) → drop n xs ≡ x ∷ rest → slice_get xs n ≡ Some x

@@ -1,5 +1,5 @@
 -- Which octets are a packet.
-use Rattle.std.proofs.Common.{◌≡◌, ℕ, ◌+◌, ◌-◌, ◌*◌, ◌/◌, ◌%◌, ◌<◌, ◌≤◌, ◌⊎◌, inl, inr, List, [], ◌∷◌, ◌++◌, length, take, drop, slice_index, refl, ap, sym, ◌∙◌, arith, length-append, length-take, append_assoc}
+use Rattle.std.proofs.Common.{◌≡◌, ℕ, ◌+◌, ◌-◌, ◌/◌, ◌%◌, ◌<◌, ◌≤◌, inl, inr, List, [], ◌∷◌, ◌++◌, length, take, drop, slice_index, ap, sym, ◌∙◌, arith, length-append, length-take}
 use Rattle.std.proofs.lemmas.Grind.{common_steps}
 use Rattle.byteorder.specs.Endian.{big_number}
 use Rattle.ppp_packet.specs.PacketOf.{PacketOf, laid_packet, length_field, HasBadLength}
@@ -35,8 +35,10 @@ good_length octets p h bad = refute bad
   where
     field : length_field octets ≡ length p.body + 4
     field = ap length_field h.are ∙ omega arith
+
     all : length octets ≡ length p.body + 4 + length h.padding
     all = omega (arith, ap length h.are, length-append p.body h.padding)
+
     refute : HasBadLength octets → ⊥
     refute (inl low) = omega (arith, field, low)
     refute (inr (inl cut)) = omega (arith, field, all, cut)

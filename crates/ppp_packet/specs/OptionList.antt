@@ -1,5 +1,6 @@
 -- The options that octets are, as a function of the octets.
-use Rattle.std.specs.Prelude.{◌≡◌, ℕ, ◌+◌, ◌-◌, nat_le, ◌&&◌, Bool, true, false, if◌then◌else◌, Option, Some, None, List, [], ◌∷◌, length, take, drop}
+use Rattle.std.specs.Prelude.{◌≡◌, ℕ, ◌-◌, nat_eq, if◌then◌else◌, Option, Some, None, List, [], ◌∷◌, take, drop}
+use Rattle.std.specs.Cmp.Lexicographic.{pointwise}
 use Rattle.ppp_packet.specs.OptionsOf.{Item, item, laid}
 
 -- `fuel` is a list as long as the octets or longer
@@ -16,13 +17,6 @@ items_of octets = items_by octets octets
 pub record IsLaid (octets : List ℕ) : Type 0 where
   pub are : laid (items_of octets) ≡ octets
 
-abbrev pub is_laid_by : List ℕ → List ℕ → Bool
-is_laid_by [] [] = true
-is_laid_by [] (_ ∷ octets) = false
-is_laid_by (_ ∷ fuel) [] = true
-is_laid_by (_ ∷ fuel) (kind ∷ []) = false
-is_laid_by (_ ∷ fuel) (kind ∷ size ∷ rest) = nat_le 2 size && nat_le size (length rest + 2) && is_laid_by fuel (drop (size - 2) rest)
-
--- the options that octets are, if they are some
+-- the options that octets are, if they are some: laying what they begin with gives the octets again
 unfoldable pub read_options : List ℕ → Option (List Item)
-read_options octets = if is_laid_by octets octets then Some (items_of octets) else None
+read_options octets = if pointwise nat_eq (laid (items_of octets)) octets then Some (items_of octets) else None

@@ -9,6 +9,8 @@ pub mod laws;
 mod option_item;
 mod options;
 mod packet;
+#[cfg(test)]
+mod tests;
 
 pub use auth_out::{AuthOut, AuthOutcome};
 pub use body::{Body, MOST_BODY};

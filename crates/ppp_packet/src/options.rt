@@ -77,10 +77,10 @@ impl Options {
         ensures first_fault { (fault : OptionFault) → FaultOf bytes.now fault → result ≡ Err fault }
         ensures function { result_ok result ≡ read_options bytes.now }
     {
-        let list = Options::find(bytes);
-        list
+        Options::find(bytes)
     }
 
+    // The options, or the first fault.
     fn find(bytes: &[u8]) -> Result<OptionList, OptionFault>
         requires { length bytes.now ≤ 1504 }
         ensures { MatchResult result (λ list. OptionsOf bytes.now list) (λ fault. FaultOf bytes.now fault) }

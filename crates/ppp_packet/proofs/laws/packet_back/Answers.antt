@@ -1,6 +1,6 @@
 -- A packet is read as itself alone.
 use Rattle.std.proofs.Common.{◌++◌, refl, ap, length, arith}
-use Rattle.ppp_packet.specs.PacketOf.{PacketOf, laid_packet}
+use Rattle.ppp_packet.specs.PacketOf.{laid_packet}
 use Rattle.ppp_packet.proofs.Packets.{one_packet}
 use Rattle.ppp_packet.proofs.laws.packet_back.Goals as goal
 

@@ -1,5 +1,5 @@
 -- Each option is counted once.
-use Rattle.std.proofs.Common.{◌≡◌, length, arith, ap, sym, ◌∙◌}
+use Rattle.std.proofs.Common.{length, arith, ap}
 use Rattle.ppp_packet.proofs.Laying.{two_each}
 use Rattle.ppp_packet.proofs.options.OptionList.count.Goals as goal
 

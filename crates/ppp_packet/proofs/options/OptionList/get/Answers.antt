@@ -1,5 +1,5 @@
 -- The option behind as many others.
-use Rattle.std.proofs.Common.{◌≡◌, ◌≤◌, Some, None, length, drop, arith, ap, sym, subst, rules, MatchOption, slice_get, ◌∙◌, ◌++◌, ◌∷◌}
+use Rattle.std.proofs.Common.{◌≡◌, ◌≤◌, Some, length, drop, arith, ap, sym, subst, MatchOption, slice_get, ◌∙◌, ◌++◌, ◌∷◌}
 use Rattle.ppp_packet.specs.OptionsOf.{item}
 use Rattle.ppp_packet.proofs.Laying.{get-drop, drop-next, past_last}
 use Rattle.ppp_packet.proofs.options.OptionList.get.Goals as goal
