@@ -1,5 +1,4 @@
 -- Reading one octet after another, as the private calls do it. What they read is what `Reads` says.
-
 use Rattle.std.specs.Prelude.{ℕ, ◌==◌, ◌&&◌, if◌then◌else◌, is_none, List, [], ◌∷◌, ◌++◌, Option, Some, None, Result, Ok, Err}
 use Rattle.ppp_words.specs.Octets.{is_white, is_quote, line_after}
 use Rattle.ppp_words.specs.PlacedWord.{PlacedWord}
