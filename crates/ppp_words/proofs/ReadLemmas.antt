@@ -3,7 +3,7 @@ use Rattle.std.proofs.Common.{◌≡◌, ℕ, List, [], refl, ap, sym, subst, �
 use Rattle.std.specs.Prelude.{Result, Ok, Err}
 use Rattle.ppp_words.specs.PlacedWord.{PlacedWord}
 use Rattle.ppp_words.specs.Words.{with_words, words_from, Reads}
-use Rattle.ppp_words.specs.Steps.{run, start}
+use Rattle.ppp_words.specs.Steps.{run, start, words_of}
 use Rattle.ppp_words.specs.declared.backslash.Backslash.{Backslash}
 use Rattle.std.specs.Global.{Vec}
 use Rattle.ppp_words.specs.declared.word.Word.{Word}
@@ -18,7 +18,7 @@ no_front (Ok words) = refl
 no_front (Err line) = refl
 
 -- What is read is what the octets have.
-pub run_reads : (backslash : Backslash) (octets : List ℕ) → Reads backslash octets (run backslash start octets)
+run_reads : (backslash : Backslash) (octets : List ℕ) → Reads backslash octets (run backslash start octets)
 run_reads backslash octets =
     let made = some_text octets in
     record {
@@ -29,9 +29,19 @@ run_reads backslash octets =
     }
 
 -- What the octets have is what is read.
-pub reads_run : (backslash : Backslash) (octets : List ℕ) (read : Result (List PlacedWord) ℕ) → Reads backslash octets read → run backslash start octets ≡ read
+reads_run : (backslash : Backslash) (octets : List ℕ) (read : Result (List PlacedWord) ℕ) → Reads backslash octets read → run backslash start octets ≡ read
 reads_run backslash octets read reads =
     ap (run backslash start) reads.spells ∙ text_run backslash 1 [] reads.text reads.fits ∙ no_front (words_from backslash 1 reads.text) ∙ reads.means
+
+-- The one reading is what the octets have.
+pub words_read : (backslash : Backslash) (octets : List ℕ) → Reads backslash octets (words_of backslash octets)
+unfolding words_of
+words_read backslash octets = run_reads backslash octets
+
+-- What the octets have is the one reading.
+pub read_words : (backslash : Backslash) (octets : List ℕ) (read : Result (List PlacedWord) ℕ) → Reads backslash octets read → words_of backslash octets ≡ read
+unfolding words_of
+read_words backslash octets read reads = reads_run backslash octets read reads
 
 -- An answer that is what is read is one that may be read.
 pub gives_some : (answer : Result (Vec Word) WordsFault) (read : Result (List PlacedWord) ℕ) (IsRead : Result (List PlacedWord) ℕ → Type 0) → Gives answer read → IsRead read → GivesSome answer IsRead

@@ -80,3 +80,7 @@ run backslash s (octet ∷ octets) = run backslash (step backslash s octet) octe
 -- before the first octet
 abbrev pub start : State
 start = record { place = Outside; line = 1; word = None; words = [] }
+
+-- The one reading of the octets: what `Reads` has of them.
+unfoldable pub words_of : Backslash → List ℕ → Result (List PlacedWord) ℕ
+words_of backslash octets = run backslash start octets

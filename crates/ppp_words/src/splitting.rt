@@ -1,7 +1,7 @@
 ghost use Rattle.std.specs.Prelude.{ℕ, List, Result, Ok, Err};
 ghost use Rattle.ppp_words.specs.PlacedWord.{PlacedWord};
 ghost use Rattle.ppp_words.specs.Words.{Reads, HasWords, HasOpenQuote};
-ghost use Rattle.ppp_words.specs.Steps.{run, start};
+ghost use Rattle.ppp_words.specs.Steps.{words_of};
 ghost use Rattle.ppp_words.specs.Answers.{Gives, GivesSome};
 
 use crate::backslash::Backslash;
@@ -11,8 +11,9 @@ use crate::word::Word;
 use std::alloc::Global;
 
 /// The words, one octet after another.
+#[tactic(auto, unfolding(crate::specs::Steps::words_of))]
 fn read(alloc: Global, text: &[u8], backslash: Backslash) -> Result<Vec<Word>, WordsFault>
-    ensures { Gives result (run backslash start text.now) }
+    ensures { Gives result (words_of backslash text.now) }
 {
     let mut reader = Reader::new(alloc, backslash);
     for octet in text {
@@ -32,6 +33,8 @@ pub fn words(alloc: Global, text: &[u8], backslash: Backslash) -> Result<Vec<Wor
     ensures words { (words : List PlacedWord) → HasWords backslash text.now words → Gives result (Ok words) }
     // A text with an open quote gives no words.
     ensures open_quote { (line : ℕ) → HasOpenQuote backslash text.now line → Gives result (Err line) }
+    // The same, with the reading of the text as a value.
+    ensures exact { Gives result (words_of backslash text.now) }
 {
     read(alloc, text, backslash)
 }
