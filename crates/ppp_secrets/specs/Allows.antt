@@ -1,0 +1,43 @@
+-- Which addresses a line of a secrets file allows (pppd(8), "Authentication").
+use Rattle.std.specs.Prelude.{ℕ, ◌-◌, ◌/◌, ◌^◌, ◌==◌, Bool, true, false, if◌then◌else◌, List, [], ◌∷◌, Option, Some, None}
+use Rattle.std.specs.List.{find}
+use Rattle.ppp_secrets.specs.declared.address_word.Cover.{Cover}
+use Rattle.ppp_secrets.specs.declared.address_word.Cover.TheVariants.{Every, Subnet, Nothing}
+use Rattle.ppp_secrets.specs.declared.address_word.AddressWord.{AddressWord}
+use Rattle.ppp_secrets.specs.SecretLine.{SecretLine}
+use Rattle.ppp_secrets.specs.Lookup.{line_numbered}
+
+-- A subnet of n bits covers the addresses with the same first n bits.
+abbrev pub covers : ℕ → Cover → Bool
+covers address Every = true
+covers address (Subnet network bits) = address / 2 ^ (32 - bits) == network / 2 ^ (32 - bits)
+covers address Nothing = false
+
+-- the first word that covers an address decides
+abbrev pub decided : Option AddressWord → Bool
+decided None = false
+decided (Some word) = word.allows
+
+-- whether a word is -
+abbrev pub is_nothing : Cover → Bool
+is_nothing Every = false
+is_nothing (Subnet network bits) = false
+is_nothing Nothing = true
+
+-- whether the first word is -
+abbrev pub begins_with_none : List AddressWord → Bool
+begins_with_none [] = false
+begins_with_none (word ∷ words) = is_nothing word.cover
+
+-- Where the first word is - no address is allowed; else the first word that covers the address decides.
+abbrev pub allowed : List AddressWord → ℕ → Bool
+allowed words address = if begins_with_none words then false else decided (find (λ word. covers address word.cover) words)
+
+-- where there is such a line, what its words allow
+abbrev pub line_allows : ℕ → Option SecretLine → Bool
+line_allows address None = false
+line_allows address (Some line) = allowed line.addresses address
+
+-- whether the line with this number allows the address
+abbrev pub Allows : List SecretLine → ℕ → ℕ → Bool
+Allows lines number address = line_allows address (line_numbered number lines)

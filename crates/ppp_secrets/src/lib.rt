@@ -1,0 +1,21 @@
+//! Secrets files (pppd(8), "Authentication"): whose secret a peer has to know, and which addresses it may have.
+//!
+//! Each line of the text by itself is words: a client, a server, a secret, and then the addresses that the client may
+//! have. Contracts see a `Secrets` as the list of its lines.
+#![tactic(auto)]
+
+mod address_word;
+mod allowing;
+mod fault;
+mod line;
+mod numbers;
+mod pieces;
+mod reading;
+mod secrets;
+
+pub use address_word::{AddressWord, Cover};
+pub use fault::SecretsFault;
+pub use secrets::{Secrets, SecretsPair};
+
+#[cfg(test)]
+mod tests;
