@@ -2,6 +2,11 @@ use super::*;
 use ppp_base::{Frame, Name};
 use std::test::Fail;
 
+// What is read of the first octets, as many as `there`.
+fn read_front(octets: &[u8], there: usize) -> Result<Packet, PacketFault> {
+    Packet::read(&octets[..there.min(octets.len())])
+}
+
 #[test]
 fn lengths_of_packets(rt: HostRuntime) -> Result<(), Fail> {
     let mut octets = [0u8; 1510];
@@ -26,7 +31,7 @@ fn lengths_of_packets(rt: HostRuntime) -> Result<(), Fail> {
     ] {
         octets[2] = (size >> 8) as u8;
         octets[3] = (size & 255) as u8;
-        match (Packet::read(&octets[..there]), data) {
+        match (read_front(&octets, there), data) {
             (Ok(packet), Some(length)) => {
                 assert_eq!(rt; (packet.code, packet.id), (9, 7), "at {size}");
                 assert_eq!(rt; packet.body.len(), length, "at {size}");
