@@ -2,20 +2,32 @@
 //! program does with them: read a source to its end, write a text page by page.
 #![tactic(auto)]
 
+mod hook_words;
 mod memory_sink;
 mod memory_source;
+mod memory_spawner;
 mod reading;
+mod replay_spawner;
+mod scripted;
 mod sink;
 mod source;
+mod spawner;
+#[cfg(test)]
+mod spawner_tests;
 mod streams;
 #[cfg(test)]
 mod tests;
 mod writing;
 
+pub use hook_words::{HookArgs, HookScript, HookWords, words_of};
 pub use memory_sink::MemorySink;
 pub use memory_source::MemorySource;
+pub use memory_spawner::MemorySpawner;
 pub use reading::{Whole, read_whole};
+pub use replay_spawner::ReplaySpawner;
+pub use scripted::{Scripted, ScriptedSpawner};
 pub use sink::{Sink, Took};
 pub use source::{Got, Source};
+pub use spawner::{Ran, ScriptEnd, Spawner};
 pub use streams::{FromReader, ToWriter};
 pub use writing::{PAGE, TextWriter, write_whole};

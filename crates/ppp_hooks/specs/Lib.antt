@@ -1,0 +1,11 @@
+pub mod HookCall
+pub mod HookCounts
+pub mod HookFacts
+pub mod HookLaw
+pub mod HookMark
+pub mod HookPast
+pub mod HookRule
+pub mod HookRuns
+pub mod HookState
+pub mod HookWords
+pub mod Settled
