@@ -99,14 +99,15 @@ fn steps(alloc: Global, text: &[u8]) -> Result<Vec<BareStep>, TraceFault>
     Ok(steps)
 }
 
+/// A fault of this line.
 fn bad(line: u32, kind: FaultKind) -> TraceFault
     ensures { result ≡ Bad (record { line = line; kind = kind }) }
 {
     TraceFault::Bad(BadTrace { line, kind })
 }
 
-/// Reads a bare trace: its steps, or its first fault. The time is that of one pass over the octets. A trace longer than
-/// `MOST_OCTETS` need not be told from a shorter one here: its line past the limit of steps comes far earlier.
+/// Reads a bare trace: its steps, or its first fault. The time is that of one pass over the octets. It never answers
+/// `Size`: a caller that takes no more than `MOST_OCTETS` tells that fault itself.
 pub fn read_bare(alloc: Global, octets: &[u8]) -> Result<Vec<BareStep>, TraceFault>
     ensures { MatchResult result (λ steps. IsBareTrace octets.now steps.items) (λ fault. Tells octets.now fault) }
 {

@@ -2,7 +2,7 @@
 ghost use Rattle.std.specs.Prelude.{◌≡◌, List, ℕ};
 ghost use Rattle.ppp_trace.specs.declared.fault.BadTrace.{BadTrace};
 ghost use Rattle.ppp_trace.specs.declared.step.BareStep.{BareStep};
-ghost use Rattle.ppp_trace.specs.BareTrace.{IsBareTrace};
+ghost use Rattle.ppp_trace.specs.BareTrace.{IsBareTrace, IsNoTrace};
 ghost use Rattle.ppp_trace.specs.FirstFault.{FirstFault};
 
 /// A trace has one list of steps alone.
@@ -15,7 +15,7 @@ pub fn first_fault_is_one()
     ensures { (octets : List ℕ) (a b : BadTrace) → FirstFault octets a → FirstFault octets b → a ≡ b }
 {}
 
-/// No trace has a fault.
-pub fn trace_has_no_fault()
-    ensures { (octets : List ℕ) (steps : List BareStep) (bad : BadTrace) → IsBareTrace octets steps → ¬ FirstFault octets bad }
+/// Octets that have a first fault are no trace.
+pub fn fault_is_of_no_trace()
+    ensures { (octets : List ℕ) (bad : BadTrace) → FirstFault octets bad → IsNoTrace octets }
 {}

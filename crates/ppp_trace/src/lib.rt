@@ -1,8 +1,8 @@
 //! The reader of bare traces. A bare trace is the line `bare` and then a line for each step: the word of an event of the
 //! option negotiation automaton of RFC 1661, or how the running site script ended. `read_bare` answers the steps, or
 //! the first fault with its line, and `fault_text` is the line that tells it. `specs/BareTrace.antt` says what a trace
-//! is, by its spelling, and `specs/FirstFault.antt` what is wrong with octets that are none; `laws` has that each
-//! octets are the one or the other, and in one way only.
+//! is, by its spelling, and `specs/FirstFault.antt` what is wrong with octets that are none. `laws` has that a trace has
+//! one list of steps alone, octets have one first fault alone, and octets with a fault are no trace.
 #![tactic(auto)]
 
 mod bare;
