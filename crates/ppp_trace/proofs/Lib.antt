@@ -1,0 +1,4 @@
+pub mod LinesLemmas
+pub mod OnceLemmas
+pub mod StepLemmas
+pub mod TraceLemmas

@@ -1,0 +1,7 @@
+pub mod Words
+pub mod Steps
+pub mod Lines
+pub mod BareTrace
+pub mod FirstFault
+pub mod Reads
+pub mod FaultLine

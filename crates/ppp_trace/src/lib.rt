@@ -1,0 +1,48 @@
+//! The reader of bare traces. A bare trace is the line `bare` and then a line for each step: the word of an event of the
+//! option negotiation automaton of RFC 1661, or how the running site script ended. `read_bare` answers the steps, or
+//! the first fault with its line, and `fault_text` is the line that tells it. `specs/BareTrace.antt` says what a trace
+//! is, by its spelling, and `specs/FirstFault.antt` what is wrong with octets that are none. `laws` has that a trace has
+//! one list of steps alone, octets have one first fault alone, and octets with a fault are no trace.
+#![tactic(auto)]
+
+mod bare;
+mod fault;
+pub mod laws;
+mod lines;
+mod step;
+#[cfg(test)]
+mod tests;
+mod words;
+
+pub use bare::read_bare;
+pub use fault::{BadTrace, FaultKind, TraceFault, fault_text};
+use ppp_fsm::FsmEvent;
+pub use step::BareStep;
+
+/// How many steps a bare trace has at most.
+pub const MOST_STEPS: usize = 100_000;
+
+/// How many octets a trace has at most.
+pub const MOST_OCTETS: u32 = 67_108_864;
+
+/// How many octets a line has at most, its newline not counted.
+pub const MOST_LINE: usize = 8_192;
+
+/// Every event.
+pub const EVENTS: [FsmEvent; 15] = [
+    FsmEvent::Open,
+    FsmEvent::Close,
+    FsmEvent::Up,
+    FsmEvent::Down,
+    FsmEvent::Timeout,
+    FsmEvent::RcrGood,
+    FsmEvent::RcrBad,
+    FsmEvent::Rca,
+    FsmEvent::Rcn,
+    FsmEvent::Rtr,
+    FsmEvent::Rta,
+    FsmEvent::Ruc,
+    FsmEvent::RxjGood,
+    FsmEvent::RxjBad,
+    FsmEvent::Rxr,
+];
