@@ -20,5 +20,5 @@ pub record GivesAll (old new : SourceState) (octets : List ℕ) : Type 0 where
 -- What was read: all octets of the source, where they are no more than the limit; more than the limit; or it failed.
 abbrev pub Reads : ℕ → SourceState → SourceState → Whole → Type 0
 Reads limit old new (whole.Octets v) = GivesAll old new v.items × (length v.items ≤ limit)
-Reads limit old new whole.TooLong = (octets : List ℕ) × Gives old new octets × (limit < length octets)
+Reads limit old new (whole.TooLong v) = Gives old new v.items × (limit < length v.items)
 Reads limit old new whole.Failed = Rose old.faults new.faults

@@ -13,8 +13,8 @@ const PIECE: usize = 4096;
 pub enum Whole {
     /// These octets.
     Octets(Vec<u8>),
-    /// More than the limit.
-    TooLong,
+    /// More than the limit: these at its beginning, one more than the limit.
+    TooLong(Vec<u8>),
     /// The source failed.
     Failed,
 }
@@ -36,5 +36,5 @@ pub fn read_whole<I: Source>(alloc: Global, input: &mut I, limit: u32) -> Result
             Got::Failed => return Ok(Whole::Failed),
         }
     }
-    Ok(Whole::TooLong)
+    Ok(Whole::TooLong(octets))
 }

@@ -13,7 +13,7 @@ fn count_read(alloc: Global, octets: &[u8], limit: u32, fails: &[u64]) -> Result
     let mut source = MemorySource::new(Vec::from_slice(alloc, octets)?, 2, failing);
     Ok(match read_whole(alloc, &mut source, limit)? {
         Whole::Octets(octets) => octets.len(),
-        Whole::TooLong => 100,
+        Whole::TooLong(_) => 100,
         Whole::Failed => 200,
     })
 }
@@ -98,7 +98,7 @@ fn takes_readers_and_writers(rt: HostRuntime) -> Result<(), Fail> {
     let mut source = FromReader::new(b"octets".as_slice());
     let octets = match read_whole(alloc, &mut source, 100)? {
         Whole::Octets(octets) => octets,
-        Whole::TooLong | Whole::Failed => Vec::new(alloc),
+        Whole::TooLong(_) | Whole::Failed => Vec::new(alloc),
     };
     let mut sink = ToWriter::new(Vec::new(alloc));
     assert!(rt; write_whole(&mut sink, octets.as_slice()));
