@@ -1,4 +1,6 @@
-pub mod GrammarLemmas
-pub mod LinesLemmas
+pub mod HeadlineLemmas
+pub mod PastLemmas
+pub mod PlayerLemmas
+pub mod RunLawLemmas
 pub mod RunLemmas
-pub mod TraceLemmas
+pub mod WrittenLemmas

@@ -1,29 +1,117 @@
--- What a source gave, against the grammar.
-use Rattle.std.proofs.Common.{◌≡◌, ℕ, ◌<◌, ◌≤◌, List, length, arith, ap, inl, inr}
-use Rattle.std.specs.Prelude.{Option, Some, None}
-use Rattle.std.specs.Io.KnownBytes.{Consumes}
-use Rattle.std.proofs.KnownBytes.{Consumes-whole}
+-- What a source gave, against what it held.
+use Rattle.std.proofs.Common.{◌≡◌, ℕ, ◌+◌, ◌*◌, ◌<◌, ◌≤◌, ◌⊎◌, List, [], ◌∷◌, ◌++◌, length, get_or, refl, sym, ap, ◌∙◌, arith, inl, inr, append_assoc, append-nil}
+use Rattle.std.specs.Prelude.{Option, Some, None, codes, Bool, true, false, IsTrue}
+use Rattle.std.specs.Bool.{OnFalse, OnTrue}
+use Rattle.std.specs.List.{flat_map}
+use Rattle.std.specs.Io.KnownBytes.{Consumes, IsAtEnd}
 use Rattle.std.proofs.lemmas.List.{length-append}
+use Rattle.ppp_outside.specs.Reading.{GivesAll}
+use Rattle.ppp_outside.specs.Sink.{SinkState}
 use Rattle.ppp_outside.specs.Source.{SourceState}
-use Rattle.ppp_replay.specs.declared.TheConstants.{MOST_OCTETS}
-use Rattle.ppp_replay.specs.BareTrace.{IsNoTrace}
-use Rattle.ppp_replay.specs.Run.{ReadsNoTrace}
-use Rattle.ppp_replay.proofs.GrammarLemmas.{trace_is_short}
+use Rattle.ppp_trace.proofs.OnceLemmas.{no_fault}
+use Rattle.ppp_trace.proofs.StepLemmas.{step_is_short}
+use Rattle.ppp_trace.specs.BareTrace.{AreSteps, IsBareTrace, spelled}
+use Rattle.ppp_trace.specs.Steps.{word_of_step}
+use Rattle.ppp_trace.specs.declared.TheConstants.{MOST_OCTETS}
+use Rattle.ppp_trace.specs.declared.fault.BadTrace.{BadTrace}
+use Rattle.ppp_trace.specs.declared.step.BareStep.{BareStep}
+use Rattle.ppp_replay.specs.Run.{BeginsFull, IsFull, IsInputFault, ReadsInput, Refuses, WritesFault}
 
--- Too many octets are no trace.
-pub long_is_no_trace : (octets : List ℕ) → MOST_OCTETS < length octets → IsNoTrace octets
-long_is_no_trace octets long steps trace = absurd (omega (arith, trace.few, trace_is_short octets steps trace))
+-- ---- a trace is no other input
 
--- what was read is at most all there was
-read_is_short : (all got : List ℕ) (rest : Option (List ℕ)) → Consumes (Some all) rest got → length got ≤ length all
-read_is_short all got None given = absurd given
-read_is_short all got (Some xs) given = omega (arith, ap length given, length-append got xs)
+steps_length : (steps : List BareStep) → AreSteps steps → length (flat_map (λ s. 10 ∷ word_of_step s) steps) ≤ 31 * length steps
+steps_length [] all = omega arith
+steps_length (s ∷ ss) all =
+    omega (arith, step_is_short s all.0, steps_length ss all.1, length-append (word_of_step s) (flat_map (λ s. 10 ∷ word_of_step s) ss))
 
--- Where all octets are known, they are no trace.
-pub all_is_no_trace : (old new : SourceState) (all : List ℕ) → ReadsNoTrace old new → old.left ≡ Some all → IsNoTrace all
-all_is_no_trace old new all read known =
-    let given : Consumes (Some all) new.left read.octets = rw known at read.given.consumed in
-    elim read.enough [
-      | inl end ↦ Consumes-whole (Some all) new.left read.octets IsNoTrace given end read.no_trace
-      | inr long ↦ long_is_no_trace all (omega (arith, read_is_short all read.octets new.left given))
-    ]
+trace_is_short : (octets : List ℕ) (steps : List BareStep) → IsBareTrace octets steps → length octets ≤ 5 + 31 * length steps
+trace_is_short octets steps h = elim h.text [
+  | inl is ↦ rw is (omega (arith, steps_length steps h.bounded))
+  | inr is ↦ rw is (omega (arith, steps_length steps h.bounded, length-append (spelled steps) (10 ∷ [])))
+]
+
+pub trace_no_fault : (octets : List ℕ) (steps : List BareStep) (bad : BadTrace) → IsBareTrace octets steps → IsInputFault octets bad → ⊥
+trace_no_fault octets steps bad h fault = elim fault [
+  | inl long ↦ absurd (omega (arith, long.0, h.few, trace_is_short octets steps h))
+  | inr first ↦ no_fault octets steps bad h first.1
+]
+
+differ : (x y : ℕ) → x ≡ y → x ≡ 98 → y ≡ 102 → ⊥
+differ x y e p q = absurd (omega arith)
+
+first_octet : (xs ys : List ℕ) → codes "bare" ++ xs ≡ codes "full" ++ ys → ⊥
+first_octet xs ys e = differ (get_or (codes "bare" ++ xs) 0 0) (get_or (codes "full" ++ ys) 0 0) (ap (λ l. get_or l 0 0) e) refl refl
+
+pub trace_not_full : (octets : List ℕ) (steps : List BareStep) → IsBareTrace octets steps → BeginsFull octets → ⊥
+trace_not_full octets steps h full = elim h.text [
+  | inl is ↦ first_octet _ full.0 (sym is ∙ full.1)
+  | inr is ↦ first_octet _ full.0 (sym is ∙ full.1)
+]
+
+-- ---- what was read, and all there was
+
+rest_of : (all octets : List ℕ) (left : Option (List ℕ)) → Consumes (Some all) left octets → (rest : List ℕ) × (all ≡ octets ++ rest) × (IsAtEnd left → rest ≡ [])
+rest_of all octets None given = absurd given
+rest_of all octets (Some xs) given = (xs, given, λ e. e)
+
+pub whole_is : (old new : SourceState) (all octets : List ℕ) → GivesAll old new octets → old.left ≡ Some all → octets ≡ all
+whole_is old new all octets gives known =
+    let given : Consumes (Some all) new.left octets = rw known at gives.given.consumed in
+    let rest = rest_of all octets new.left given in
+    sym (append-nil octets) ∙ ap (λ xs. octets ++ xs) (sym (rest.2 gives.end)) ∙ sym rest.1
+
+-- what was read is all there was, or its front and too long
+record Known (all octets : List ℕ) : Type 0 where
+  rest : List ℕ
+  is : all ≡ octets ++ rest
+  enough : (rest ≡ []) ⊎ (MOST_OCTETS < length octets)
+
+known_is : (old new : SourceState) (all octets : List ℕ) → ReadsInput old new octets → old.left ≡ Some all → Known all octets
+known_is old new all octets read known =
+    let given : Consumes (Some all) new.left octets = rw known at read.given.consumed in
+    let rest = rest_of all octets new.left given in
+    record { rest = rest.0; is = rest.1; enough = elim read.enough [ inl end ↦ inl (rest.2 end) | inr long ↦ inr long ] }
+
+full_grows : (all octets : List ℕ) → Known all octets → BeginsFull octets → BeginsFull all
+full_grows all octets k full = (full.0 ++ k.rest, k.is ∙ ap (λ xs. xs ++ k.rest) full.1 ∙ append_assoc (codes "full") full.0 k.rest)
+
+front_is_full : (octets rest more : List ℕ) → 4 ≤ length octets → octets ++ rest ≡ codes "full" ++ more → BeginsFull octets
+front_is_full [] rest more long e = absurd (omega arith)
+front_is_full (a ∷ []) rest more long e = absurd (omega arith)
+front_is_full (a ∷ b ∷ []) rest more long e = absurd (omega arith)
+front_is_full (a ∷ b ∷ c ∷ []) rest more long e = absurd (omega arith)
+front_is_full (a ∷ b ∷ c ∷ d ∷ octets) rest more long e = (octets, cc)
+
+full_shrinks : (all octets : List ℕ) → Known all octets → BeginsFull all → BeginsFull octets
+full_shrinks all octets k full = elim k.enough [
+  | inl none ↦ (full.0, sym (append-nil octets) ∙ ap (λ xs. octets ++ xs) (sym none) ∙ sym k.is ∙ full.1)
+  | inr long ↦ front_is_full octets k.rest full.0 (omega (arith, long)) (sym k.is ∙ full.1)
+]
+
+fault_grows : (all octets : List ℕ) (bad : BadTrace) → Known all octets → IsInputFault octets bad → IsInputFault all bad
+fault_grows all octets bad k fault = elim k.enough [
+  | inl none ↦ let same : octets ≡ all = sym (append-nil octets) ∙ ap (λ xs. octets ++ xs) (sym none) ∙ sym k.is in rw (← same) fault
+  | inr long ↦ elim fault [
+    | inl size ↦ inl (omega (arith, size.0, ap length k.is, length-append octets k.rest), size.1)
+    | inr first ↦ absurd (omega (arith, first.0, long))
+  ]
+]
+
+pub refused_known : (old new : SourceState) (before after : SinkState) (all : List ℕ) → Refuses old new before after → old.left ≡ Some all
+    → ¬ BeginsFull all × ((bad : BadTrace) × IsInputFault all bad × WritesFault before after bad)
+refused_known old new before after all r known =
+    let k = known_is old new all r.octets r.read known in
+    (λ full. r.other (full_shrinks all r.octets k full), (r.bad, fault_grows all r.octets r.bad k r.fault, r.line))
+
+pub full_known : (old new : SourceState) (before after : SinkState) (all : List ℕ) → IsFull old new before after → old.left ≡ Some all → BeginsFull all
+full_known old new before after all f known = full_grows all f.octets (known_is old new all f.octets f.read known) f.begins
+
+-- ---- tests and what they tell
+
+pub not_full : (b : Bool) (P : Type 0) → (P → IsTrue b) → b ≡ false → P → ⊥
+not_full true P f e p = absurd (cc e)
+not_full false P f e p = absurd (cc (f p))
+
+pub either_way : (b : Bool) (P Q : Type 0) → OnTrue b P → OnFalse b Q → P ⊎ Q
+either_way true P Q p q = inl p
+either_way false P Q p q = inr q

@@ -1,6 +1,7 @@
-pub mod Words
-pub mod Lines
-pub mod BareTrace
-pub mod Reader
+pub mod ActNames
+pub mod Log
+pub mod Bare
+pub mod BareRun
+pub mod Player
 pub mod BareText
 pub mod Run

@@ -1,45 +1,20 @@
-//! Replays a written trace of events through the option negotiation automaton of RFC 1661: it reads the trace from
-//! standard input to its end and writes one line for each step on standard output.
+//! Replays a written trace of events through the option negotiation automaton of RFC 1661 and the site scripts of its
+//! unit: it reads the trace from standard input to its end and writes one line for each step on standard output.
 #![tactic(auto)]
 
-mod laws;
+mod act_names;
+pub mod bare;
+pub mod log;
+mod player;
 mod run;
 #[cfg(test)]
 mod tests;
 mod text;
-mod trace;
-mod words;
 
-use ppp_fsm::FsmEvent;
 use ppp_outside::{FromReader, ToWriter};
 use std::process::ExitCode;
 use std::rt::Env;
 use std::{env, io};
-
-/// How many octets a trace has at most.
-pub const MOST_OCTETS: u32 = 67_108_864;
-
-/// How many steps a bare trace has at most.
-pub const MOST_STEPS: usize = 100_000;
-
-/// Every event.
-pub const EVENTS: [FsmEvent; 15] = [
-    FsmEvent::Open,
-    FsmEvent::Close,
-    FsmEvent::Up,
-    FsmEvent::Down,
-    FsmEvent::Timeout,
-    FsmEvent::RcrGood,
-    FsmEvent::RcrBad,
-    FsmEvent::Rca,
-    FsmEvent::Rcn,
-    FsmEvent::Rtr,
-    FsmEvent::Rta,
-    FsmEvent::Ruc,
-    FsmEvent::RxjGood,
-    FsmEvent::RxjBad,
-    FsmEvent::Rxr,
-];
 
 fn main(rt: HostRuntime) -> ExitCode {
     let Ok(words) = words_of(&rt) else {

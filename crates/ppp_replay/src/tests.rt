@@ -1,10 +1,10 @@
+use crate::bare::Bare;
 use crate::run::replay_run;
 use ppp_base::NoMemory;
-use ppp_outside::{MemorySink, MemorySource};
+use ppp_fsm::{FsmEvent, Limits};
+use ppp_outside::{MemorySink, MemorySource, ReplaySpawner};
 use std::alloc::Global;
 use std::test::Fail;
-
-const REFUSAL: &str = "bad trace: the input is no bare trace\n";
 
 // The status and the output for an input that comes in pieces, where these calls of the source and the sink fail.
 fn replayed(
@@ -25,29 +25,53 @@ fn replayed(
 fn replays_traces(rt: HostRuntime) -> Result<(), Fail> {
     let rows = [
         (
-            "bare\nopen\nup\nrcr+\nrca\ndown\n",
-            0,
-            "1 tls 1/0\n2 irc,scr 6/9\n3 sca 8/9\n4 irc,tlu 9/10\n5 tld 1/10\n",
+            "bare\nopen\nup\nrcr+\nrca\nend 1 exit 0\ndown\nend 2 exit 0\n",
+            "1 tls 1/0 rest\n2 irc,scr 6/9 rest\n3 sca 8/9 rest\n4 irc,tlu 9/10 ip-up 1 run 1\n5 - 9/10 rest\n6 tld 1/10 ip-down 1 run 2\n7 - 1/10 rest\n",
+        ),
+        (
+            "bare\nopen\nup\nrcr+\nrca\ndown\nup\nrcr+\nrca\nend 1 exit 0\nend 2 exit 0\nend 3 exit 0",
+            "1 tls 1/0 rest\n2 irc,scr 6/9 rest\n3 sca 8/9 rest\n4 irc,tlu 9/10 ip-up 1 run 1\n5 tld 1/10 run 1\n6 irc,scr 6/9 run 1\n7 sca 8/9 run 1\n8 irc,tlu 9/10 run 1\n9 - 9/10 ip-down 1 run 2\n10 - 9/10 ip-up 2 run 3\n11 - 9/10 rest\n",
+        ),
+        (
+            "bare\nopen\nup\nrcr+\nrca\ndown\nend 1 killed\n",
+            "1 tls 1/0 rest\n2 irc,scr 6/9 rest\n3 sca 8/9 rest\n4 irc,tlu 9/10 ip-up 1 run 1\n5 tld 1/10 run 1\n6 - 1/10 ip-down 1 run 2\n",
+        ),
+        (
+            "bare\nopen\nup\nrcr+\nrca\nend 9 exit 0\nend 1 none\ndown\n",
+            "1 tls 1/0 rest\n2 irc,scr 6/9 rest\n3 sca 8/9 rest\n4 irc,tlu 9/10 ip-up 1 run 1\n5 stale 9/10 run 1\n6 - 9/10 rest\n7 tld 1/10 ip-down 1 run 2\n",
         ),
         (
             "bare\nopen\nup\nrca\nrca",
-            0,
-            "1 tls 1/0\n2 irc,scr 6/9\n3 irc 7/10\n4 scr 6/9\n",
+            "1 tls 1/0 rest\n2 irc,scr 6/9 rest\n3 irc 7/10 rest\n4 scr 6/9 rest\n",
         ),
         (
             "bare\nopen\nup\ntimeout\ntimeout\ntimeout\ntimeout\ntimeout\ntimeout\ntimeout\ntimeout\ntimeout\ntimeout\n",
-            0,
-            "1 tls 1/0\n2 irc,scr 6/9\n3 scr 6/8\n4 scr 6/7\n5 scr 6/6\n6 scr 6/5\n7 scr 6/4\n8 scr 6/3\n9 scr 6/2\n10 scr 6/1\n11 scr 6/0\n12 tlf 3/0\n",
+            "1 tls 1/0 rest\n2 irc,scr 6/9 rest\n3 scr 6/8 rest\n4 scr 6/7 rest\n5 scr 6/6 rest\n6 scr 6/5 rest\n7 scr 6/4 rest\n8 scr 6/3 rest\n9 scr 6/2 rest\n10 scr 6/1 rest\n11 scr 6/0 rest\n12 tlf 3/0 rest\n",
         ),
-        ("bare\ndown", 0, "1 - 0/0\n"),
-        ("bare", 0, ""),
-        ("bare\n", 0, ""),
-        ("", 3, REFUSAL),
-        ("bare\n\n", 3, REFUSAL),
-        ("bare\nUp\n", 3, REFUSAL),
-        ("bare \nup\n", 3, REFUSAL),
-        ("full 1\n", 3, REFUSAL),
-        ("bare\nopen\nend 1 exit 0\n", 3, REFUSAL),
+        ("bare\ndown", "1 - 0/0 rest\n"),
+        ("bare", ""),
+    ];
+    for (input, output) in rows {
+        let (status, written) = replayed(rt.alloc(), input, &[], &[])?;
+        assert_eq!(rt; status, 0, "at {input:?}");
+        assert_eq!(rt; written.as_slice(), output.as_bytes(), "at {input:?}");
+    }
+    Ok(())
+}
+
+#[test]
+fn refuses_other_inputs(rt: HostRuntime) -> Result<(), Fail> {
+    let rows = [
+        ("", 3, "bad trace: line 1: empty\n"),
+        ("bare \nup\n", 3, "bad trace: line 1: header\n"),
+        ("bare\n\n", 3, "bad trace: line 2: step\n"),
+        (
+            "bare\nopen\nup \nend 01 none\n",
+            3,
+            "bad trace: line 3: step\n",
+        ),
+        ("full 1\nx", 4, ""),
+        ("fuller", 4, ""),
     ];
     for (input, status, output) in rows {
         let (answer, written) = replayed(rt.alloc(), input, &[], &[])?;
@@ -64,8 +88,8 @@ fn tells_faults(rt: HostRuntime) -> Result<(), Fail> {
         (trace, &[2], &[], 33, ""),
         (trace, &[], &[1], 35, ""),
         (trace, &[], &[2], 35, "1 tls"),
-        ("full", &[], &[1], 3, ""),
-        ("full", &[], &[2], 3, "bad t"),
+        ("else", &[], &[1], 3, ""),
+        ("else", &[], &[2], 3, "bad t"),
     ];
     for (input, source_fails, sink_fails, status, output) in rows {
         let (answer, written) = replayed(rt.alloc(), input, source_fails, sink_fails)?;
@@ -87,5 +111,30 @@ fn refuses_words(rt: HostRuntime) -> Result<(), Fail> {
     let mut sink = MemorySink::new(alloc, 16, 1, Vec::new(alloc))?;
     assert_eq!(rt; replay_run(alloc, &words, &mut source, &mut sink), 2);
     assert!(rt; sink.written().is_empty());
+    Ok(())
+}
+
+#[test]
+fn the_log_has_a_start_behind_its_cause(rt: HostRuntime) -> Result<(), Fail> {
+    let limits = Limits {
+        configure: 10,
+        terminate: 3,
+    };
+    let mut bare = Bare::new(rt.alloc(), limits, ReplaySpawner::new())?;
+    for event in [
+        FsmEvent::Open,
+        FsmEvent::Up,
+        FsmEvent::RcrGood,
+        FsmEvent::Rca,
+    ] {
+        if bare.log().room() >= 3 {
+            let _acts = bare.apply(event);
+        }
+    }
+    let kinds = [bare.log().get(0), bare.log().get(1), bare.log().get(2)].map(|mark| mark.map(
+        |mark| (mark.kind, mark.x, mark.z),
+    ));
+    assert_eq!(rt; kinds, [Some((35, 0, 1)), Some((7, 1, 1)), None]);
+    assert_eq!(rt; bare.take_job().map(|job| job.number()), Some(1));
     Ok(())
 }
