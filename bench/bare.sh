@@ -18,10 +18,15 @@ replay=crates/ppp_replay/out/ppp_replay
 python3 - "$seed" >"$work/trace" <<'PY'
 import random, sys
 random.seed(int(sys.argv[1]))
-words = "open close up down timeout rcr+ rcr- rca rcn rtr rta ruc rxj+ rxj- rxr".split()
-print("bare")
-for _ in range(100000):
-    print(random.choice(words))
+# Lives of a link, each with two ends of scripts and two events that change nothing: a quarter of the steps are ends.
+steps, job = ["open"], 1
+while len(steps) < 100000:
+    life = ["up", "rcr+", "rca", f"end {job} exit 0", "down", f"end {job + 1} exit 0"]
+    for event in random.choices(["ruc", "rxr", "open"], k=2):
+        life.insert(random.randrange(1, 3), event)
+    steps += life
+    job += 2
+print("\n".join(["bare"] + steps[:100000]))
 PY
 
 python3 - "$replay" "$work/yardstick" "$work/trace" <<'PY'
