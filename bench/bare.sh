@@ -12,7 +12,7 @@ command -v rustc >/dev/null || { echo "skipped: there is no rustc"; exit 0; }
 work=$(mktemp -d)
 trap 'rm -rf "$work"' EXIT
 rustc -O -o "$work/yardstick" "$yardstick"
-(cd crates/ppp_replay && rt run) >/dev/null 2>&1
+(cd crates/ppp_replay && rt run <stdin) >/dev/null 2>&1
 replay=crates/ppp_replay/out/ppp_replay
 
 python3 - "$seed" >"$work/trace" <<'PY'
