@@ -1,6 +1,7 @@
 //! Control packets and their options, read and written (RFC 1661, sections 5 and 6), and what PAP and CHAP answer with them.
 #![tactic(auto)]
 
+mod agreed;
 mod auth_out;
 mod body;
 mod fault;
@@ -10,6 +11,7 @@ mod option_item;
 mod options;
 mod packet;
 
+pub use agreed::{Agreed, Method};
 pub use auth_out::{AuthOut, AuthOutcome};
 pub use body::{Body, MOST_BODY};
 pub use fault::{OptionFault, PacketFault};
