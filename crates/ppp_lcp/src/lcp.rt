@@ -71,6 +71,7 @@ pub struct Lcp {
 
 impl Lcp {
     ghost use Rattle.ppp_lcp.specs.Ours.{Mark};
+    ghost use Rattle.ppp_lcp.specs.Class.{Class, acts_on};
     ghost use Rattle.ppp_lcp.specs.Due.{Moment, Due, at_event, at_tick, at_packet};
     ghost use Rattle.ppp_control.specs.Class.{heard_as, last_options};
     ghost use Rattle.ppp_control.specs.Start.{started, is_past};
@@ -159,6 +160,7 @@ impl Lcp {
     pub fn heard(&mut self, packet: &Packet, now: u64) -> LcpOut
         requires { now ≤ 2 ^ 56 }
         ensures new { self.new ≡ heard_lcp self.old packet.now now (heard_as true self.old.core.request packet.now) }
+        ensures class { result.acts ≡ acts_on self.old.core.fsm (Class self.old packet.now) }
         ensures told { result ≡ heard_told self.old packet.now now (heard_as true self.old.core.request packet.now) }
         ensures due { (past : List Moment) → Due self.old past → Due self.new (at_packet now packet.now (heard_as true self.old.core.request packet.now) self.old self.new past) }
         ensures stands { (words : ℕ) (past : List Mark) → StandsFor words self.old past → StandsFor words self.new (marks_of self.old (heard_as true self.old.core.request packet.now) past) }

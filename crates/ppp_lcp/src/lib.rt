@@ -8,12 +8,11 @@
 
 mod judge;
 mod last;
+pub mod laws;
 mod lcp;
 mod magic;
 mod ours;
 mod out;
-#[cfg(test)]
-mod tests;
 mod wish;
 
 pub use judge::verdict;
