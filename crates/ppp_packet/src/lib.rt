@@ -1,6 +1,7 @@
 //! Control packets and their options, read and written (RFC 1661, sections 5 and 6), and what PAP and CHAP answer with them.
 #![tactic(auto)]
 
+mod agreed;
 mod auth_out;
 mod body;
 mod fault;
@@ -12,6 +13,7 @@ mod packet;
 #[cfg(test)]
 mod tests;
 
+pub use agreed::{Agreed, Method};
 pub use auth_out::{AuthOut, AuthOutcome};
 pub use body::{Body, MOST_BODY};
 pub use fault::{OptionFault, PacketFault};

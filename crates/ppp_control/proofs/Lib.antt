@@ -1,0 +1,5 @@
+pub mod Sorts
+pub mod ActingLemmas
+pub mod Looking
+pub mod TimingLemmas
+pub mod TableLemmas

@@ -1,0 +1,10 @@
+pub mod Answers
+pub mod Judging
+pub mod Sorting
+pub mod Given
+pub mod Start
+pub mod Step
+pub mod Class
+pub use Rattle.ppp_packet.specs.OptionsOf
+pub use Rattle.ppp_packet.specs.OptionList
+pub mod Timing

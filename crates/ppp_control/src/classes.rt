@@ -1,0 +1,149 @@
+ghost use Rattle.std.specs.Prelude.{◌≡◌, nat_eq};
+ghost use Rattle.ppp_packet.specs.OptionsOf.{laid};
+ghost use Rattle.ppp_packet.specs.OptionList.{read_options};
+ghost use Rattle.ppp_control.specs.Class.{is_selection, asks_of, heard_as, ack_heard, nak_heard, reject_heard, code_reject_heard, event_if};
+
+use crate::parts::Request;
+use ppp_fsm::FsmEvent;
+use ppp_packet::{OptionList, Options, Packet};
+
+/// What a packet is.
+#[derive(Drop)]
+pub enum Heard {
+    /// A Configure-Request.
+    Request(OptionList),
+    /// An Ack of our last request.
+    Ack,
+    /// A Nak of it.
+    Nak(OptionList),
+    /// A Reject of some of its options.
+    Reject(OptionList),
+    /// Another event.
+    Event(FsmEvent),
+    /// None: the packet is discarded.
+    Discarded,
+}
+
+fn is_selection(few: &OptionList, many: &OptionList) -> bool
+    ensures { result ≡ is_selection few.now many.now }
+{
+    let mut wanted = few.walk();
+    let mut next = wanted.next();
+    let mut walk = many.walk();
+    'looking: while let Some(have) = walk.next() {
+        match next {
+            None => return true,
+            Some(want) => {
+                if want.kind == have.kind && want.body == have.body {
+                    next = wanted.next();
+                }
+            }
+        }
+    }
+    next.is_none()
+}
+
+fn event_if(test: bool, event: FsmEvent) -> Heard
+    ensures { result ≡ event_if test event }
+{
+    if test {
+        Heard::Event(event)
+    } else {
+        Heard::Discarded
+    }
+}
+
+fn code_reject(rejected: &[u8]) -> Heard
+    ensures { result ≡ code_reject_heard rejected.now }
+{
+    if rejected.is_empty() {
+        return Heard::Discarded;
+    }
+    if 1 <= rejected[0] && rejected[0] <= 7 {
+        Heard::Event(FsmEvent::RxjBad)
+    } else {
+        Heard::Event(FsmEvent::RxjGood)
+    }
+}
+
+fn ack(request: &Option<Request>, packet: &Packet) -> Heard
+    ensures { result ≡ ack_heard request.now packet.now }
+{
+    match request {
+        Some(last) => {
+            if last.id == packet.id && packet.body.as_slice() == last.options.as_slice() {
+                Heard::Ack
+            } else {
+                Heard::Discarded
+            }
+        }
+        None => Heard::Discarded,
+    }
+}
+
+fn nak(request: &Option<Request>, packet: &Packet) -> Heard
+    ensures { result ≡ nak_heard request.now packet.now }
+{
+    match request {
+        Some(last) => {
+            if last.id != packet.id {
+                return Heard::Discarded;
+            }
+            match Options::read(packet.body.as_slice()) {
+                Ok(items) => Heard::Nak(items),
+                Err(_) => Heard::Discarded,
+            }
+        }
+        None => Heard::Discarded,
+    }
+}
+
+fn reject(request: &Option<Request>, packet: &Packet) -> Heard
+    ensures { result ≡ reject_heard request.now packet.now }
+{
+    match request {
+        Some(last) => {
+            if packet.id != last.id {
+                return Heard::Discarded;
+            }
+            match Options::read(packet.body.as_slice()) {
+                Ok(items) => {
+                    if is_selection(&items, &last.options) {
+                        Heard::Reject(items)
+                    } else {
+                        Heard::Discarded
+                    }
+                }
+                Err(_) => Heard::Discarded,
+            }
+        }
+        None => Heard::Discarded,
+    }
+}
+
+fn request_of(packet: &Packet) -> Heard
+    ensures { result ≡ asks_of (read_options packet.now.body) }
+{
+    match Options::read(packet.body.as_slice()) {
+        Ok(items) => Heard::Request(items),
+        Err(_) => Heard::Discarded,
+    }
+}
+
+/// What a packet is, where this was our last request.
+pub fn class(is_lcp: bool, request: &Option<Request>, packet: &Packet) -> Heard
+    ensures { result ≡ heard_as is_lcp request.now packet.now }
+{
+    match packet.code {
+        1 => request_of(packet),
+        2 => ack(request, packet),
+        3 => nak(request, packet),
+        4 => reject(request, packet),
+        5 => Heard::Event(FsmEvent::Rtr),
+        6 => Heard::Event(FsmEvent::Rta),
+        7 => code_reject(packet.body.as_slice()),
+        8 if is_lcp => event_if(packet.body.as_slice().len() >= 2, FsmEvent::RxjGood),
+        9..=11 if is_lcp => event_if(packet.body.as_slice().len() >= 4, FsmEvent::Rxr),
+        _ => Heard::Event(FsmEvent::Ruc),
+    }
+}

@@ -1,0 +1,21 @@
+//! What the negotiations of LCP and IPCP share (RFC 1661, sections 4 to 6): the automaton with its identifiers, its
+//! requests and its restart timer, which event a packet is, and in which order a request's options are answered.
+//!
+//! `class` says which event a packet is, given our last request. `verdict_by` answers a request by a `Judge`, who
+//! says of each option whether it is acknowledged, named or rejected. `Negotiation::step` carries out the acts of one
+//! event; what it comes with is the `Occasion`, which the protocol above fills in.
+#![tactic(auto)]
+
+mod classes;
+mod judging;
+pub mod laws;
+mod negotiation;
+mod packets;
+mod parts;
+mod sorting;
+
+pub use classes::{Heard, class};
+pub use judging::{Judge, Judged, Verdict, verdict_by};
+pub use negotiation::{Negotiation, StepOut};
+pub use packets::Packets;
+pub use parts::{Occasion, Request};

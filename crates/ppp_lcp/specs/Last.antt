@@ -1,0 +1,65 @@
+-- What the options of two acknowledged requests mean. Of two options of one type the later holds.
+use Rattle.std.specs.Prelude.{ℕ, ◌==◌, nat_le, nat_lt, ◌&&◌, min, not, if◌then◌else◌, Option, Some, None, is_some, List, [], ◌∷◌, length}
+use Rattle.ppp_base.specs.Disc.{Discriminator}
+use Rattle.ppp_base.specs.Mrru.{MrruPair}
+use Rattle.ppp_packet.specs.OptionsOf.{Item}
+use Rattle.ppp_packet.specs.declared.agreed.Agreed.{Agreed}
+use Rattle.ppp_packet.specs.declared.agreed.Method.{Method}
+use Rattle.ppp_packet.specs.declared.agreed.Method.TheVariants.{Pap, Chap}
+use Rattle.ppp_lcp.specs.Table.{number2, number4, is_chap, is_pap}
+
+-- the last option of a type
+abbrev pub last_from : Option (List ℕ) → ℕ → List Item → Option (List ℕ)
+last_from found kind [] = found
+last_from found kind (i ∷ items) = last_from (if i.kind == kind then Some i.body else found) kind items
+
+abbrev pub last_body : ℕ → List Item → Option (List ℕ)
+last_body kind items = last_from None kind items
+
+-- its number, or a default where there is none
+abbrev pub number2_or : Option (List ℕ) → ℕ → ℕ
+number2_or None default = default
+number2_or (Some body) default = if nat_le 2 (length body) then number2 body else default
+
+abbrev pub number4_or : Option (List ℕ) → ℕ → ℕ
+number4_or None default = default
+number4_or (Some body) default = if nat_le 4 (length body) then number4 body else default
+
+-- by what the other end is asked to prove who it is
+abbrev pub method_of : Option (List ℕ) → Option Method
+method_of None = None
+method_of (Some body) = if is_chap body then Some Chap else if is_pap body then Some Pap else None
+
+abbrev pub method_in : List Item → Option Method
+method_in items = method_of (last_body 3 items)
+
+-- a class that isn't 0, and an address of at most 20 octets
+abbrev pub discriminator_in : List ℕ → Option Discriminator
+discriminator_in [] = None
+discriminator_in (class ∷ address) = if nat_le 1 class && nat_le (length address) 20 then Some (record { class = class; address = address }) else None
+
+abbrev pub discriminator_of : Option (List ℕ) → Option Discriminator
+discriminator_of None = None
+discriminator_of (Some body) = discriminator_in body
+
+abbrev pub number2_of : Option (List ℕ) → Option ℕ
+number2_of None = None
+number2_of (Some body) = if length body == 2 then Some (number2 body) else None
+
+-- both ends asked for multilink, ours with 1500 to 2048 octets and the peer with at least 1500
+abbrev pub mrru_pair : Option ℕ → Option ℕ → Option MrruPair
+mrru_pair None theirs = None
+mrru_pair (Some ours) None = None
+mrru_pair (Some ours) (Some theirs) = if nat_le 1500 ours && nat_le ours 2048 && nat_le 1500 theirs then Some (record { ours = ours; theirs = theirs }) else None
+
+-- A peer's MRU above 1500 counts as 1500. What a request leaves out has its default.
+abbrev pub agreed_by : List Item → List Item → Agreed
+agreed_by ours theirs = record {
+  we_prove = method_in theirs;
+  peer_proves = method_in ours;
+  peer_mru = min (number2_or (last_body 1 theirs) 1500) 1500;
+  mrru = mrru_pair (number2_of (last_body 17 ours)) (number2_of (last_body 17 theirs));
+  disc = discriminator_of (last_body 19 theirs);
+  send = record { map = number4_or (last_body 2 theirs) 0xffffffff; pfc = is_some (last_body 7 theirs); acfc = is_some (last_body 8 theirs) };
+  receive_map = number4_or (last_body 2 ours) 0xffffffff;
+}

@@ -1,0 +1,12 @@
+pub mod Table
+pub mod Verdict
+pub mod Magic
+pub mod Ours
+pub mod Last
+pub mod Out
+pub mod Negotiating
+pub mod Due
+pub mod Class
+pub use Rattle.ppp_packet.specs.OptionsOf
+pub use Rattle.ppp_packet.specs.PacketOf
+pub use Rattle.ppp_control.specs.Answers

@@ -1,0 +1,23 @@
+//! LCP, which negotiates a link (RFC 1661, with RFC 1990's options): what is acknowledged, what we ask for, echoes,
+//! and what both ends have agreed on.
+//!
+//! `verdict` answers a peer's request. `Ours` is what we ask for at present. `Lcp` is the negotiation on one link:
+//! each call is told the time in milliseconds and answers what is to be sent in its `LcpOut`. The automaton, the
+//! identifiers and the restart timer are those of `ppp_control`.
+#![tactic(auto)]
+
+mod judge;
+mod last;
+pub mod laws;
+mod lcp;
+mod magic;
+mod ours;
+mod out;
+mod wish;
+
+pub use judge::verdict;
+pub use lcp::Lcp;
+pub use out::LcpOut;
+pub use ppp_control::Verdict;
+pub use ppp_packet::{Agreed, Method};
+pub use wish::LcpWish;
