@@ -13,6 +13,8 @@ mod lcp;
 mod magic;
 mod ours;
 mod out;
+#[cfg(test)]
+mod tests;
 mod wish;
 
 pub use judge::verdict;
