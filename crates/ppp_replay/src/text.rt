@@ -97,10 +97,12 @@ fn put_line<O: Sink>(
     writer.put_number(output, number);
     writer.put(output, b" ");
     put_told(writer, output, player, step);
+    let state = player.state();
+    let counter = player.counter();
     writer.put(output, b" ");
-    writer.put_number(output, u64::from(player.state()));
+    writer.put_number(output, u64::from(state));
     writer.put(output, b"/");
-    writer.put_number(output, u64::from(player.counter()));
+    writer.put_number(output, u64::from(counter));
     put_start(writer, output, player.start_since(before));
     put_running(writer, output, player.running());
     writer.put(output, b"\n");
