@@ -99,11 +99,12 @@ fn put_line<O: Sink>(
     put_told(writer, output, player, step);
     let state = player.state();
     let counter = player.counter();
+    let start = player.start_since(before);
     writer.put(output, b" ");
     writer.put_number(output, u64::from(state));
     writer.put(output, b"/");
     writer.put_number(output, u64::from(counter));
-    put_start(writer, output, player.start_since(before));
+    put_start(writer, output, start);
     put_running(writer, output, player.running());
     writer.put(output, b"\n");
 }
