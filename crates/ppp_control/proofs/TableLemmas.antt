@@ -1,10 +1,10 @@
 -- No entry of the table has more than three acts.
-use Rattle.std.proofs.Common.{◌≡◌, ℕ, ◌≤◌, Bool, true, false, cond, List, [], ◌∷◌, length, refl, zero, suc, arith, ap, ◌∙◌}
+use Rattle.std.proofs.Common.{◌≡◌, ℕ, ◌≤◌, Bool, true, false, cond, List, [], ◌∷◌, length, refl, zero, suc}
 use Rattle.std.specs.Prelude.{◌&&◌, slice_index_or, nat_eq, nat_le}
 use Rattle.std.proofs.lemmas.Bool.{leb-true}
 use Rattle.ppp_fsm.specs.declared.event.FsmEvent.{FsmEvent}
 use Rattle.ppp_fsm.specs.declared.event.FsmEvent.TheVariants.{Up, Down, Open, Close, Timeout, RcrGood, RcrBad, Rca, Rcn, Rtr, Rta, Ruc, RxjGood, RxjBad, Rxr}
-use Rattle.ppp_fsm.specs.Fsm.{Automaton, Entry, never, go, row_of, timeout_at_0, timeout_above, acts_in, acts_of}
+use Rattle.ppp_fsm.specs.Fsm.{Automaton, Entry, never, row_of, timeout_at_0, timeout_above, acts_in, acts_of}
 
 passes : Entry → Bool
 passes entry = nat_le (length (acts_in entry)) 3

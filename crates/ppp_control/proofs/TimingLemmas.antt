@@ -1,5 +1,5 @@
 -- The timer that is kept is the one that looking back gives.
-use Rattle.std.proofs.Common.{◌≡◌, ℕ, ◌+◌, Bool, true, false, cond, Option, Some, None, List, [], ◌∷◌, refl, ap, sym, ◌∙◌}
+use Rattle.std.proofs.Common.{◌≡◌, ℕ, ◌+◌, ◌%◌, Bool, true, false, cond, Option, Some, None, List, [], ◌∷◌, refl, ap, sym, ◌∙◌}
 use Rattle.std.specs.Prelude.{nat_lt, is_some, ◌&&◌}
 use Rattle.ppp_fsm.specs.declared.event.FsmEvent.{FsmEvent}
 use Rattle.ppp_fsm.specs.declared.acts.Act.{Act}
@@ -9,8 +9,12 @@ use Rattle.ppp_control.specs.declared.negotiation.Negotiation.{Negotiation}
 use Rattle.ppp_control.specs.declared.judging.Verdict.{Verdict}
 use Rattle.ppp_control.specs.declared.judging.Verdict.TheVariants.{Ack, Nak, Reject}
 use Rattle.ppp_control.specs.Given.{Given}
-use Rattle.ppp_control.specs.Step.{left_by, left_by_all, requested, terminated, answered, timed, moved, stepped}
-use Rattle.ppp_control.specs.Timing.{Done, sets_timer, due_after}
+use Rattle.ppp_control.specs.Step.{left_by, left_by_all, requested, terminated, answered, moved, stepped, step_sends, packet, next_of}
+use Rattle.ppp_fsm.specs.Fsm.{after}
+use Rattle.ppp_fsm.specs.declared.fsm.Limits.{Limits}
+use Rattle.ppp_packet.specs.declared.packet.Packet.{Packet}
+use Rattle.ppp_control.specs.Past.{Happened, sets_timer, onto, taken_by, taken_in, sent_in, is_timeout, automaton_after, negotiation_after, restart_after}
+use Rattle.ppp_control.proofs.PastLemmas.{Follows, acts_back, acts_fsm, follows_timed, follows_moved, same_negotiation, no_more, next_taken}
 
 either_way : {A : Type 0} (b : Bool) (x : A) → cond b x x ≡ x
 either_way true x = refl
@@ -59,15 +63,65 @@ stopped_state true high n = refl
 stopped_state false true n = refl
 stopped_state false false n = refl
 
-pub timer_back : (o : Given) (event : FsmEvent) (n : Negotiation) (past : List Done) → n.restart_at ≡ due_after o.restart_ms past
-    → (stepped o event n).restart_at ≡ due_after o.restart_ms (record { now = o.now; acts = acts_of n.fsm event; state = (stepped o event n).fsm.state } ∷ past)
+pub timer_back : (o : Given) (event : FsmEvent) (n : Negotiation)
+    → (stepped o event n).restart_at ≡ cond (nat_lt (after n.fsm event).state 4) None (cond (nat_lt 8 (after n.fsm event).state) None (cond (sets_timer (acts_of n.fsm event)) (Some (o.now + o.restart_ms)) n.restart_at))
 unfolding stepped
-timer_back o event n past e =
+timer_back o event n =
     let acts = acts_of n.fsm event in
     let m : Negotiation = left_by_all o (moved event n) acts in
-    let low = nat_lt m.fsm.state 4 in
-    let high = nat_lt 8 m.fsm.state in
-    let state = stopped_state low high m in
-    stopped_timer low high m
-    ∙ ap (λ t. cond low None (cond high None t)) (acts_timer o (moved event n) acts ∙ ap (λ t. cond (sets_timer acts) (Some (o.now + o.restart_ms)) t) e)
-    ∙ ap (λ f. cond (nat_lt f.state 4) None (cond (nat_lt 8 f.state) None (cond (sets_timer acts) (Some (o.now + o.restart_ms)) (due_after o.restart_ms past)))) (sym state)
+    stopped_timer (nat_lt m.fsm.state 4) (nat_lt 8 m.fsm.state) m
+    ∙ ap (λ t. cond (nat_lt m.fsm.state 4) None (cond (nat_lt 8 m.fsm.state) None t)) (acts_timer o (moved event n) acts)
+    ∙ ap (λ f. cond (nat_lt f.state 4) None (cond (nat_lt 8 f.state) None (cond (sets_timer acts) (Some (o.now + o.restart_ms)) n.restart_at))) (acts_fsm o acts (moved event n))
+
+pub fsm_back : (o : Given) (event : FsmEvent) (n : Negotiation) → (stepped o event n).fsm ≡ after n.fsm event
+unfolding stepped
+fsm_back o event n =
+    let m : Negotiation = left_by_all o (moved event n) (acts_of n.fsm event) in
+    stopped_state (nat_lt m.fsm.state 4) (nat_lt 8 m.fsm.state) m ∙ acts_fsm o (acts_of n.fsm event) (moved event n)
+
+pub follows_back : (o : Given) (event : FsmEvent) (n : Negotiation) (log : List Packet) (t : ℕ) → Follows o.repeats n log t
+    → Follows o.repeats (stepped o event n) (onto (step_sends o event n) log) (t + taken_by o.repeats log (step_sends o event n))
+unfolding stepped step_sends
+follows_back o event n log t h =
+    let m : Negotiation = left_by_all o (moved event n) (acts_of n.fsm event) in
+    follows_timed (nat_lt m.fsm.state 4) (nat_lt 8 m.fsm.state) o.repeats m _ _ (acts_back o (acts_of n.fsm event) (moved event n) log t (follows_moved (after n.fsm event) o.repeats n log t h))
+
+-- A step of what looking back gives is what looking back gives with it.
+pub step_back : (limits : Limits) (past : List Happened) (heard : Option Packet) (o : Given) (event : FsmEvent) (n : Negotiation) → n ≡ negotiation_after limits o.restart_ms past → o.repeats ≡ is_timeout (Some event)
+    → stepped o event n ≡ negotiation_after limits o.restart_ms (record { now = o.now; heard = heard; event = Some event; acts = acts_of n.fsm event; packets = step_sends o event n } ∷ past)
+step_back limits past heard o event n e repeats =
+    let t : ℕ = taken_in past in
+    let log : List Packet = sent_in past in
+    let before : Follows o.repeats n log t = record { request = ap (λ x. x.request) e; terminate = ap (λ x. x.terminate) e; naks = ap (λ x. x.naks) e; acknowledged = ap (λ x. x.acknowledged) e; next_id = ap (λ x. x.next_id) e } in
+    let now = follows_back o event n log t before in
+    let fsm : n.fsm ≡ automaton_after limits past = ap (λ x. x.fsm) e in
+    same_negotiation _ _
+    (fsm_back o event n ∙ ap (λ a. after a event) fsm)
+    (now.next_id ∙ ap (λ b. (1 + (t + taken_by b log (step_sends o event n))) % 256) repeats)
+    now.request now.terminate now.naks now.acknowledged
+    (timer_back o event n
+    ∙ ap (λ a. cond (nat_lt (after a event).state 4) None (cond (nat_lt 8 (after a event).state) None (cond (sets_timer (acts_of n.fsm event)) (Some (o.now + o.restart_ms)) n.restart_at))) fsm
+    ∙ ap (λ r. cond (nat_lt (after (automaton_after limits past) event).state 4) None (cond (nat_lt 8 (after (automaton_after limits past) event).state) None (cond (sets_timer (acts_of n.fsm event)) (Some (o.now + o.restart_ms)) r))) (ap (λ x. x.restart_at) e))
+
+-- Where no event happens, the timer stays.
+stays : (low high : Bool) (y : Option ℕ) → cond low None (cond high None (cond low None (cond high None y))) ≡ cond low None (cond high None y)
+stays true high y = refl
+stays false true y = refl
+stays false false y = refl
+
+timer_stays : (limits : Limits) (ms now : ℕ) (heard : Option Packet) (packets : List Packet) (past : List Happened)
+    → restart_after limits ms (record { now = now; heard = heard; event = None; acts = []; packets = packets } ∷ past) ≡ restart_after limits ms past
+timer_stays limits ms now heard packets [] = refl
+timer_stays limits ms now heard packets (h ∷ past) =
+    let state : ℕ = (automaton_after limits (h ∷ past)).state in
+    stays (nat_lt state 4) (nat_lt 8 state) (cond (sets_timer h.acts) (Some (h.now + ms)) (restart_after limits ms past))
+
+pub quiet_back : (limits : Limits) (ms now : ℕ) (heard : Option Packet) (past : List Happened)
+    → negotiation_after limits ms (record { now = now; heard = heard; event = None; acts = []; packets = [] } ∷ past) ≡ negotiation_after limits ms past
+quiet_back limits ms now heard past = same_negotiation _ _ refl (ap (λ x. (1 + x) % 256) (sym (no_more (taken_in past)))) refl refl refl refl (timer_stays limits ms now heard [] past)
+
+-- A packet that takes an identifier and is no answer: an Echo-Request or a Protocol-Reject.
+pub numbered_back : (limits : Limits) (ms now : ℕ) (is_echo : Bool) (id : ℕ) (body : List ℕ) (past : List Happened)
+    → negotiation_after limits ms (record { now = now; heard = None; event = None; acts = []; packets = packet (cond is_echo 9 8) id body ∷ [] } ∷ past) ≡ record (negotiation_after limits ms past) { next_id = next_of (negotiation_after limits ms past).next_id }
+numbered_back limits ms now true id body past = same_negotiation _ _ refl (sym (next_taken (taken_in past))) refl refl refl refl (timer_stays limits ms now None (packet 9 id body ∷ []) past)
+numbered_back limits ms now false id body past = same_negotiation _ _ refl (sym (next_taken (taken_in past))) refl refl refl refl (timer_stays limits ms now None (packet 8 id body ∷ []) past)

@@ -7,4 +7,4 @@ pub mod Step
 pub mod Class
 pub use Rattle.ppp_packet.specs.OptionsOf
 pub use Rattle.ppp_packet.specs.OptionList
-pub mod Timing
+pub mod Past

@@ -1,3 +1,5 @@
-pub mod DueLemmas
-pub mod StandsLemmas
+pub mod SessionLemmas
+pub mod QuietLemmas
+pub mod HeardLemmas
+pub mod AgreedLemmas
 pub mod ClassLemmas

@@ -1,5 +1,5 @@
 -- What the options of two acknowledged requests mean. Of two options of one type the later holds.
-use Rattle.std.specs.Prelude.{ℕ, ◌==◌, nat_le, nat_lt, ◌&&◌, min, not, if◌then◌else◌, Option, Some, None, is_some, List, [], ◌∷◌, length}
+use Rattle.std.specs.Prelude.{ℕ, ◌==◌, nat_le, ◌&&◌, min, if◌then◌else◌, Option, Some, None, is_some, List, [], ◌∷◌, length}
 use Rattle.ppp_base.specs.Disc.{Discriminator}
 use Rattle.ppp_base.specs.Mrru.{MrruPair}
 use Rattle.ppp_packet.specs.OptionsOf.{Item}

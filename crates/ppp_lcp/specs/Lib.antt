@@ -5,7 +5,7 @@ pub mod Ours
 pub mod Last
 pub mod Out
 pub mod Negotiating
-pub mod Due
+pub mod Session
 pub mod Class
 pub use Rattle.ppp_packet.specs.OptionsOf
 pub use Rattle.ppp_packet.specs.PacketOf

@@ -1,21 +1,24 @@
--- LCP's steps, and the answers of the session that it stands for.
+-- LCP's steps: what a call leaves, and what it tells.
 use Rattle.std.specs.Int.{to_be_bytes, w32}
-use Rattle.std.specs.Prelude.{is_none, length, drop, min, not, ℕ, ◌+◌, ◌*◌, ◌≡◌, ◌==◌, ◌&&◌, ◌||◌, nat_le, Bool, true, false, if◌then◌else◌, Option, Some, None, List, [], ◌∷◌, ◌++◌}
+use Rattle.std.specs.Prelude.{is_none, length, drop, min, not, ℕ, ◌+◌, ◌*◌, ◌==◌, ◌&&◌, ◌||◌, nat_le, Bool, true, false, if◌then◌else◌, Option, Some, None, List, [], ◌∷◌, ◌++◌}
+use Rattle.std.specs.List.{list_any}
 use Rattle.ppp_fsm.specs.declared.event.FsmEvent.{FsmEvent}
-use Rattle.ppp_fsm.specs.declared.event.FsmEvent.TheVariants.{Up, Open, Timeout, Rca, Rcn, Ruc}
+use Rattle.ppp_fsm.specs.declared.event.FsmEvent.TheVariants.{Up, Open, Timeout, Rca, Rcn}
 use Rattle.ppp_packet.specs.declared.packet.Packet.{Packet}
 use Rattle.ppp_packet.specs.OptionsOf.{Item}
 use Rattle.ppp_control.specs.declared.judging.Verdict.{Verdict}
 use Rattle.ppp_control.specs.declared.judging.Verdict.TheVariants.{Ack}
 use Rattle.ppp_control.specs.declared.classes.Heard.{Heard}
 use Rattle.ppp_control.specs.declared.classes.Heard.TheVariants.{Request as Asks, Ack as Acked, Nak, Reject, Event, Discarded}
+use Rattle.ppp_fsm.specs.declared.acts.Act.{Act}
+use Rattle.ppp_fsm.specs.declared.acts.Act.TheVariants.{Scn}
 use Rattle.ppp_fsm.specs.Fsm.{acts_of}
-use Rattle.ppp_control.specs.Class.{heard_as, last_options}
+use Rattle.ppp_control.specs.Class.{last_options}
 use Rattle.ppp_control.specs.Given.{Given}
 use Rattle.ppp_control.specs.Start.{is_due, is_past}
 use Rattle.ppp_control.specs.Step.{stepped, step_sends, next_of, packet}
 use Rattle.ppp_lcp.specs.declared.lcp.Lcp.{Lcp}
-use Rattle.ppp_lcp.specs.Ours.{Mark, first_asked, heard_nak, heard_reject, sent_magic, ours_after, asks, after_nak, after_reject, skipped, word_of, drawn}
+use Rattle.ppp_lcp.specs.Ours.{asks, after_nak, after_reject, skipped, word_of, drawn}
 use Rattle.ppp_lcp.specs.Verdict.{verdict_where, event_on}
 use Rattle.ppp_lcp.specs.Magic.{has_magic, cut_packet, cut_information}
 use Rattle.ppp_lcp.specs.Table.{number2, number4}
@@ -26,10 +29,6 @@ use Rattle.ppp_packet.specs.declared.agreed.Method.{Method}
 use Rattle.ppp_packet.specs.declared.agreed.Method.TheVariants.{Pap, Chap}
 use Rattle.ppp_lcp.specs.declared.wish.LcpWish.{LcpWish}
 use Rattle.ppp_lcp.specs.declared.out.LcpOut.{LcpOut}
-
--- LCP stands for these answers, the newest first: what it asks for is what they leave.
-pub record StandsFor (words : ℕ) (l : Lcp) (past : List Mark) : Type 0 where
-  pub ours : l.ours ≡ ours_after l.wish words past
 
 -- whether our magic number, if we have one, is in front
 abbrev pub is_magic : ℕ → List ℕ → Bool
@@ -82,7 +81,7 @@ begins Open state = state == 2
 begins _ state = false
 
 abbrev pub asks_first : FsmEvent → Lcp → Bool
-asks_first event l = is_none l.core.request && begins event l.core.fsm.state
+asks_first event l = begins event l.core.fsm.state && is_none l.core.request
 
 abbrev pub begun : FsmEvent → Lcp → Lcp
 begun event l = record l { ours = if asks_first event l && l.wish.magic then drawn l.ours else l.ours }
@@ -93,9 +92,6 @@ event_left event repeats now l = lcp_step event (plain (begun event l) repeats n
 
 abbrev pub event_told : FsmEvent → Bool → ℕ → Lcp → LcpOut
 event_told event repeats now l = event_out event (plain (begun event l) repeats now) (begun event l)
-
-abbrev pub marks_at : FsmEvent → Lcp → List Mark → List Mark
-marks_at event l past = if asks_first event l then first_asked ∷ past else past
 
 -- the most octets of a packet to the peer: its MRU in Opened, and 1,500 before
 abbrev pub peer_mru : Lcp → ℕ
@@ -116,9 +112,16 @@ verdict_on l items = verdict_where items l.wish (l.wish.multilink && not l.ours.
 abbrev pub answering : Lcp → Packet → List Item → ℕ → Given
 answering l p items now = record { now = now; restart_ms = l.wish.restart_s * 1000; repeats = false; asked = asks l.wish l.ours; id = p.id; theirs = items; verdict = verdict_on l items; rejected = []; reply = None }
 
--- Whether a Nak with a magic number is sent: in Stopped and from Req-Sent on.
+-- Whether a Nak with a magic number is sent.
+abbrev pub is_scn : Act → Bool
+is_scn Scn = true
+is_scn _ = false
+
+abbrev pub sends_verdict : List Act → Bool
+sends_verdict acts = list_any is_scn acts
+
 abbrev pub sends_magic : Lcp → List Item → Bool
-sends_magic l items = has_magic (verdict_on l items) && (l.core.fsm.state == 3 || nat_le 6 l.core.fsm.state)
+sends_magic l items = has_magic (verdict_on l items) && sends_verdict (acts_of l.core.fsm (event_on (verdict_on l items)))
 
 abbrev pub word_spent : Bool → Lcp → Lcp
 word_spent test l = record l { ours = record l.ours { generator = if test then skipped l.ours.generator else l.ours.generator } }
@@ -169,15 +172,6 @@ heard_told l p now (Reject items) = record (event_out Rcn (by_packet (with_rejec
 heard_told l p now (Event event) = record (event_out event (by_packet l p now) l) { network_refused = refused_by l p }
 heard_told l p now Discarded = no_event l.loops
 
--- the answers of the session after a packet
-abbrev pub marks_of : Lcp → Heard → List Mark → List Mark
-marks_of l (Asks items) past = if sends_magic l items then sent_magic ∷ past else past
-marks_of l Acked past = past
-marks_of l (Nak items) past = heard_nak items ∷ past
-marks_of l (Reject items) past = heard_reject items ∷ past
-marks_of l (Event event) past = past
-marks_of l Discarded past = past
-
 -- The echo timer: nothing before it is due; the end where as many as may be have gone unanswered; else an Echo-Request.
 abbrev pub is_failed : Lcp → Bool
 is_failed l = not (l.wish.echo_failure == 0) && l.unanswered == l.wish.echo_failure
@@ -195,6 +189,9 @@ echo_told l now =
     else no_event l.loops
 
 -- A restart timer that is due is a timeout; else the echo timer is looked at.
+abbrev pub tick_event : Lcp → ℕ → Option FsmEvent
+tick_event l now = if is_due l.core now then Some Timeout else None
+
 abbrev pub ticked : Lcp → ℕ → Lcp
 ticked l now = if is_due l.core now then event_left Timeout true now l else echoed l now
 

@@ -1,5 +1,5 @@
 -- What we ask for, as a function of the wish, the generator's first state and what was answered in the session.
-use Rattle.std.specs.Prelude.{ℕ, ◌+◌, ◌*◌, ◌/◌, ◌%◌, ◌^◌, ◌==◌, max, nat_le, not, ◌&&◌, ◌||◌, bit_or, Bool, true, false, if◌then◌else◌, Option, Some, None, List, [], ◌∷◌, ◌++◌, length}
+use Rattle.std.specs.Prelude.{ℕ, ◌==◌, max, nat_le, not, ◌&&◌, ◌||◌, bit_or, Bool, true, false, if◌then◌else◌, Option, Some, None, List, [], ◌∷◌, ◌++◌, length}
 use Rattle.std.specs.Int.{to_be_bytes, w16, w32}
 use Rattle.ppp_packet.specs.OptionsOf.{Item, item}
 use Rattle.ppp_base.specs.RandomWords.{next_word, next_state}

@@ -1,6 +1,6 @@
-ghost use Rattle.std.specs.Prelude.{◌≡◌, ◌+◌, ◌^◌, ◌≤◌, length, [], true, false, ℕ, List};
+ghost use Rattle.std.specs.Prelude.{◌≡◌, ◌+◌, ◌^◌, ◌≤◌, length, [], ◌∷◌, true, false, ℕ, List};
 ghost use Rattle.ppp_lcp.specs.Verdict.{event_on};
-ghost use Rattle.ppp_lcp.specs.Negotiating.{is_proved_by, begins, names_kind};
+ghost use Rattle.ppp_lcp.specs.Negotiating.{is_proved_by, begins, names_kind, sends_verdict};
 
 use crate::judge::{number2, number4, verdict_where};
 use crate::last::{agreed_by, last_body, method_in, number2_or, number4_or};
@@ -9,7 +9,7 @@ use crate::ours::Ours;
 use crate::out::LcpOut;
 use crate::wish::LcpWish;
 use ppp_control::{Heard, Negotiation, Occasion, Verdict, class};
-use ppp_fsm::FsmEvent;
+use ppp_fsm::{Act, Acts, FsmEvent};
 use ppp_packet::{Agreed, Body, Method, OptionList, Packet};
 
 fn event_of(verdict: &Verdict) -> FsmEvent
@@ -55,6 +55,13 @@ fn names_kind(items: &OptionList, kind: u8) -> bool
     is_named
 }
 
+// Whether the answer to a request is sent that isn't an Ack.
+fn sends_verdict(acts: &Acts) -> bool
+    ensures { result ≡ sends_verdict acts.now }
+{
+    acts.as_slice().iter().any(|act| matches!(act, Act::Scn))
+}
+
 /// LCP on a link. Times are milliseconds.
 #[derive(Drop)]
 pub struct Lcp {
@@ -70,13 +77,13 @@ pub struct Lcp {
 }
 
 impl Lcp {
-    ghost use Rattle.ppp_lcp.specs.Ours.{Mark};
     ghost use Rattle.ppp_lcp.specs.Class.{Class, acts_on};
-    ghost use Rattle.ppp_lcp.specs.Due.{Moment, Due, at_event, at_tick, at_packet};
+    ghost use Rattle.ppp_lcp.specs.Session.{StandsFor, call, agreed_after};
+    ghost use Rattle.ppp_control.specs.Past.{Happened};
     ghost use Rattle.ppp_control.specs.Class.{heard_as, last_options};
     ghost use Rattle.ppp_control.specs.Start.{started, is_past};
     ghost use Rattle.ppp_lcp.specs.Last.{method_in};
-    ghost use Rattle.ppp_lcp.specs.Negotiating.{StandsFor, begun, event_left, event_told, event_out, marks_at, ticked, ticked_told, lcp_step, by_packet, verdict_on, answering, after_request, heard_lcp, heard_told, marks_of, settled, next_echo, reply_to, with_reply, is_magic, with_loops, is_loop, echoed, echo_told, peer_mru, limit_of, is_needed, refused_by, rejecting, rejecting_told, agreed_in, is_failed};
+    ghost use Rattle.ppp_lcp.specs.Negotiating.{begun, event_left, event_told, event_out, tick_event, ticked, ticked_told, lcp_step, by_packet, verdict_on, answering, after_request, heard_lcp, heard_told, settled, next_echo, reply_to, with_reply, is_magic, with_loops, is_loop, echoed, echo_told, peer_mru, limit_of, is_needed, refused_by, rejecting, rejecting_told, agreed_in, is_failed};
 
     /// In Initial. `words` is the state of the generator of magic numbers.
     pub fn new(wish: LcpWish, words: u64) -> Lcp
@@ -85,7 +92,6 @@ impl Lcp {
         requires restart { 1 ≤ wish.restart_s }
         requires max_failure { 1 ≤ wish.max_failure }
         ensures stands { StandsFor words result [] }
-        ensures due { Due result [] }
         ensures core { result.core ≡ started wish.limits }
         ensures wish { result.wish ≡ wish }
     {
@@ -106,8 +112,7 @@ impl Lcp {
         requires { now ≤ 2 ^ 56 }
         ensures new { self.new ≡ event_left FsmEvent.Open false now self.old }
         ensures told { result ≡ event_told FsmEvent.Open false now self.old }
-        ensures due { (past : List Moment) → Due self.old past → Due self.new (at_event now FsmEvent.Open self.old self.new past) }
-        ensures stands { (words : ℕ) (past : List Mark) → StandsFor words self.old past → StandsFor words self.new (marks_at FsmEvent.Open self.old past) }
+        ensures stands { (words : ℕ) (past : List Happened) → StandsFor words self.old past → StandsFor words self.new (call now None (Some FsmEvent.Open) result ∷ past) }
     {
         self.event(FsmEvent::Open, false, now)
     }
@@ -117,8 +122,7 @@ impl Lcp {
         requires { now ≤ 2 ^ 56 }
         ensures new { self.new ≡ event_left FsmEvent.Close false now self.old }
         ensures told { result ≡ event_told FsmEvent.Close false now self.old }
-        ensures due { (past : List Moment) → Due self.old past → Due self.new (at_event now FsmEvent.Close self.old self.new past) }
-        ensures stands { (words : ℕ) (past : List Mark) → StandsFor words self.old past → StandsFor words self.new past }
+        ensures stands { (words : ℕ) (past : List Happened) → StandsFor words self.old past → StandsFor words self.new (call now None (Some FsmEvent.Close) result ∷ past) }
     {
         self.event(FsmEvent::Close, false, now)
     }
@@ -128,8 +132,7 @@ impl Lcp {
         requires { now ≤ 2 ^ 56 }
         ensures new { self.new ≡ event_left FsmEvent.Up false now self.old }
         ensures told { result ≡ event_told FsmEvent.Up false now self.old }
-        ensures due { (past : List Moment) → Due self.old past → Due self.new (at_event now FsmEvent.Up self.old self.new past) }
-        ensures stands { (words : ℕ) (past : List Mark) → StandsFor words self.old past → StandsFor words self.new (marks_at FsmEvent.Up self.old past) }
+        ensures stands { (words : ℕ) (past : List Happened) → StandsFor words self.old past → StandsFor words self.new (call now None (Some FsmEvent.Up) result ∷ past) }
     {
         self.event(FsmEvent::Up, false, now)
     }
@@ -139,8 +142,7 @@ impl Lcp {
         requires { now ≤ 2 ^ 56 }
         ensures new { self.new ≡ event_left FsmEvent.Down false now self.old }
         ensures told { result ≡ event_told FsmEvent.Down false now self.old }
-        ensures due { (past : List Moment) → Due self.old past → Due self.new (at_event now FsmEvent.Down self.old self.new past) }
-        ensures stands { (words : ℕ) (past : List Mark) → StandsFor words self.old past → StandsFor words self.new past }
+        ensures stands { (words : ℕ) (past : List Happened) → StandsFor words self.old past → StandsFor words self.new (call now None (Some FsmEvent.Down) result ∷ past) }
     {
         self.event(FsmEvent::Down, false, now)
     }
@@ -150,8 +152,7 @@ impl Lcp {
         requires { now ≤ 2 ^ 56 }
         ensures new { self.new ≡ ticked self.old now }
         ensures told { result ≡ ticked_told self.old now }
-        ensures due { (past : List Moment) → Due self.old past → Due self.new (at_tick now self.old self.new past) }
-        ensures stands { (words : ℕ) (past : List Mark) → StandsFor words self.old past → StandsFor words self.new past }
+        ensures stands { (words : ℕ) (past : List Happened) → StandsFor words self.old past → StandsFor words self.new (call now None (tick_event self.old now) result ∷ past) }
     {
         self.look(now)
     }
@@ -162,8 +163,7 @@ impl Lcp {
         ensures new { self.new ≡ heard_lcp self.old packet.now now (heard_as true self.old.core.request packet.now) }
         ensures class { result.acts ≡ acts_on self.old.core.fsm (Class self.old packet.now) }
         ensures told { result ≡ heard_told self.old packet.now now (heard_as true self.old.core.request packet.now) }
-        ensures due { (past : List Moment) → Due self.old past → Due self.new (at_packet now packet.now (heard_as true self.old.core.request packet.now) self.old self.new past) }
-        ensures stands { (words : ℕ) (past : List Mark) → StandsFor words self.old past → StandsFor words self.new (marks_of self.old (heard_as true self.old.core.request packet.now) past) }
+        ensures stands { (words : ℕ) (past : List Happened) → StandsFor words self.old past → StandsFor words self.new (call now (Some packet.now) (Class self.old packet.now) result ∷ past) }
     {
         self.take(packet, now)
     }
@@ -172,14 +172,21 @@ impl Lcp {
     pub fn reject(&mut self, protocol: u16, information: &[u8]) -> LcpOut
         ensures new { self.new ≡ rejecting self.old }
         ensures told { result ≡ rejecting_told self.old protocol information.now }
-        ensures due { (past : List Moment) → Due self.old past → Due self.new past }
-        ensures stands { (words : ℕ) (past : List Mark) → StandsFor words self.old past → StandsFor words self.new past }
+        ensures stands { (words : ℕ) (past : List Happened) → StandsFor words self.old past → StandsFor words self.new (call 0 None None result ∷ past) }
     {
         self.send_reject(protocol, information)
     }
 
     /// What has been agreed on: some exactly in Opened.
     pub fn agreed(&self) -> Option<Agreed>
+        ensures agreed { result ≡ agreed_in self.now }
+        ensures acknowledged { (words : ℕ) (past : List Happened) → StandsFor words self.now past → result ≡ agreed_after self.now.wish past }
+    {
+        self.agreed_now()
+    }
+
+    // What is told as agreed, in Opened alone.
+    fn agreed_now(&self) -> Option<Agreed>
         ensures { result ≡ agreed_in self.now }
     {
         if self.core.state() != 9 {
@@ -288,7 +295,7 @@ impl Lcp {
     fn begin(&mut self, event: FsmEvent)
         ensures { self.new ≡ begun event self.old }
     {
-        if self.core.request().is_none() && begins(event, self.core.state()) && self.wish.magic {
+        if begins(event, self.core.state()) && self.core.request().is_none() && self.wish.magic {
             self.ours.draw();
         }
     }
@@ -513,9 +520,7 @@ impl Lcp {
         let asked = self.ours.asks(&self.wish);
         let none = Body::new();
         let verdict = self.verdict(theirs);
-        let state = self.core.state();
         let event = event_of(&verdict);
-        let is_magic = names_magic(&verdict) && (state == 3 || state >= 6);
         let occasion = Occasion {
             now,
             restart_ms: self.wish.restart_s as u64 * 1000,
@@ -527,10 +532,10 @@ impl Lcp {
             rejected: &none,
             reply: &None,
         };
-        let was_open = state == 9;
+        let was_open = self.core.state() == 9;
         let step = self.core.step(event, &occasion);
         self.settle(was_open, now);
-        if is_magic {
+        if names_magic(&verdict) && sends_verdict(&step.acts) {
             self.ours.skip();
         }
         LcpOut::of(step, self.loops)

@@ -1,6 +1,7 @@
--- The timers after the event.
-use Rattle.ppp_lcp.proofs.DueLemmas.{due_event}
+-- Looking back over the event.
+use Rattle.std.proofs.Common.{refl}
+use Rattle.ppp_lcp.proofs.SessionLemmas.{stands_event}
 use Rattle.ppp_lcp.proofs.lcp.Lcp.down.Goals as goal
 
-pub returns-clause-due : goal.returns-clause-due
-returns-clause-due c past h = due_event _ _ _ _ _ past c.event.ensures.new h
+pub returns-clause-stands : goal.returns-clause-stands
+returns-clause-stands c words past h = stands_event words past _ _ _ _ _ _ refl c.event.ensures.new c.event.ensures.told h

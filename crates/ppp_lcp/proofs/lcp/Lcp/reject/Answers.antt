@@ -1,6 +1,6 @@
--- The timers after the call.
-use Rattle.ppp_lcp.proofs.DueLemmas.{due_rejecting}
+-- Looking back over the call.
+use Rattle.ppp_lcp.proofs.QuietLemmas.{stands_reject}
 use Rattle.ppp_lcp.proofs.lcp.Lcp.reject.Goals as goal
 
-pub returns-clause-due : goal.returns-clause-due
-returns-clause-due c past h = due_rejecting _ _ past c.send_reject.ensures.new h
+pub returns-clause-stands : goal.returns-clause-stands
+returns-clause-stands c words past h = stands_reject words past _ _ _ _ _ c.send_reject.ensures.new c.send_reject.ensures.told h

@@ -1,6 +1,6 @@
--- The timers after the call.
-use Rattle.ppp_lcp.proofs.DueLemmas.{due_tick}
+-- Looking back over the tick.
+use Rattle.ppp_lcp.proofs.QuietLemmas.{stands_tick}
 use Rattle.ppp_lcp.proofs.lcp.Lcp.tick.Goals as goal
 
-pub returns-clause-due : goal.returns-clause-due
-returns-clause-due c past h = due_tick _ _ _ past c.look.ensures.new h
+pub returns-clause-stands : goal.returns-clause-stands
+returns-clause-stands c words past h = stands_tick words past _ _ _ _ c.look.ensures.new c.look.ensures.told h
