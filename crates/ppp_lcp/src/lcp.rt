@@ -112,6 +112,7 @@ impl Lcp {
         requires { now ≤ 2 ^ 56 }
         ensures new { self.new ≡ event_left FsmEvent.Open false now self.old }
         ensures told { result ≡ event_told FsmEvent.Open false now self.old }
+        ensures loops { result.loops ≡ self.new.loops }
         ensures stands { (words : ℕ) (past : List Happened) → StandsFor words self.old past → StandsFor words self.new (call now None (Some FsmEvent.Open) result ∷ past) }
     {
         self.event(FsmEvent::Open, false, now)
@@ -122,6 +123,7 @@ impl Lcp {
         requires { now ≤ 2 ^ 56 }
         ensures new { self.new ≡ event_left FsmEvent.Close false now self.old }
         ensures told { result ≡ event_told FsmEvent.Close false now self.old }
+        ensures loops { result.loops ≡ self.new.loops }
         ensures stands { (words : ℕ) (past : List Happened) → StandsFor words self.old past → StandsFor words self.new (call now None (Some FsmEvent.Close) result ∷ past) }
     {
         self.event(FsmEvent::Close, false, now)
@@ -132,6 +134,7 @@ impl Lcp {
         requires { now ≤ 2 ^ 56 }
         ensures new { self.new ≡ event_left FsmEvent.Up false now self.old }
         ensures told { result ≡ event_told FsmEvent.Up false now self.old }
+        ensures loops { result.loops ≡ self.new.loops }
         ensures stands { (words : ℕ) (past : List Happened) → StandsFor words self.old past → StandsFor words self.new (call now None (Some FsmEvent.Up) result ∷ past) }
     {
         self.event(FsmEvent::Up, false, now)
@@ -142,6 +145,7 @@ impl Lcp {
         requires { now ≤ 2 ^ 56 }
         ensures new { self.new ≡ event_left FsmEvent.Down false now self.old }
         ensures told { result ≡ event_told FsmEvent.Down false now self.old }
+        ensures loops { result.loops ≡ self.new.loops }
         ensures stands { (words : ℕ) (past : List Happened) → StandsFor words self.old past → StandsFor words self.new (call now None (Some FsmEvent.Down) result ∷ past) }
     {
         self.event(FsmEvent::Down, false, now)
@@ -152,6 +156,7 @@ impl Lcp {
         requires { now ≤ 2 ^ 56 }
         ensures new { self.new ≡ ticked self.old now }
         ensures told { result ≡ ticked_told self.old now }
+        ensures loops { result.loops ≡ self.new.loops }
         ensures stands { (words : ℕ) (past : List Happened) → StandsFor words self.old past → StandsFor words self.new (call now None (tick_event self.old now) result ∷ past) }
     {
         self.look(now)
@@ -163,6 +168,7 @@ impl Lcp {
         ensures new { self.new ≡ heard_lcp self.old packet.now now (heard_as true self.old.core.request packet.now) }
         ensures class { result.acts ≡ acts_on self.old.core.fsm (Class self.old packet.now) }
         ensures told { result ≡ heard_told self.old packet.now now (heard_as true self.old.core.request packet.now) }
+        ensures loops { result.loops ≡ self.new.loops }
         ensures stands { (words : ℕ) (past : List Happened) → StandsFor words self.old past → StandsFor words self.new (call now (Some packet.now) (Class self.old packet.now) result ∷ past) }
     {
         self.take(packet, now)
@@ -172,6 +178,7 @@ impl Lcp {
     pub fn reject(&mut self, protocol: u16, information: &[u8]) -> LcpOut
         ensures new { self.new ≡ rejecting self.old }
         ensures told { result ≡ rejecting_told self.old protocol information.now }
+        ensures loops { result.loops ≡ self.new.loops }
         ensures stands { (words : ℕ) (past : List Happened) → StandsFor words self.old past → StandsFor words self.new (call 0 None None result ∷ past) }
     {
         self.send_reject(protocol, information)
