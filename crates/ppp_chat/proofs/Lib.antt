@@ -1,2 +1,5 @@
 pub mod Places
 pub mod Sending
+pub mod Endings
+pub mod Windows
+pub mod Hearing

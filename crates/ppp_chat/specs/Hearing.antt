@@ -17,22 +17,11 @@ abbrev pub window_after : List ℕ → Option ℕ → List ℕ
 window_after window None = window
 window_after window (Some octet) = latest (window ++ octet ∷ [])
 
--- how the expect at hand, which began at this moment, ends with an event
-abbrev pub ending_of : List Step → Settings → ℕ → List ℕ → Event → Option Ending
-ending_of (Expect text ∷ steps) s began window event = ending (awaited text s began) window event
-ending_of other s began window event = None
-
--- what follows an ending, or the other where there is none
-abbrev pub after_ending : Option Ending → List Step → Settings → ℕ → List Event → Course → Course
-after_ending None left s now later other = other
-after_ending (Some TimeHasCome) left s now later other = after_late (drop 1 left) s now later
-after_ending (Some Found) left s now later other = after_found (drop 1 left) s now later
-after_ending (Some (AbortFound number)) left s now later other = ended (Aborted number)
-
--- whether the delay at hand, which began at this moment, is over
-abbrev pub is_delay_over : List Step → ℕ → ℕ → Bool
-is_delay_over (Pause milliseconds ∷ steps) began now = nat_le (began + milliseconds) now
-is_delay_over other began now = false
+-- what follows an ending of an expect, where these are the steps behind it
+abbrev pub after_ending : Ending → List Step → Settings → ℕ → List Event → Course
+after_ending TimeHasCome left s now later = after_late left s now later
+after_ending Found left s now later = after_found left s now later
+after_ending (AbortFound number) left s now later = ended (Aborted number)
 
 -- From what was to come a call takes the octets of its answer, and the rest is to come.
 pub record Goes (before : List Event → Course) (new : ChatState) (answered : ChatNow) : Type 0 where

@@ -8,7 +8,7 @@ use Rattle.ppp_chat.specs.declared.directives.Directives.{Directives}
 use Rattle.ppp_chat.specs.declared.now.ChatEnd.{ChatEnd}
 use Rattle.ppp_chat.specs.declared.now.ChatEnd.TheVariants.{Done}
 use Rattle.ppp_chat.specs.declared.stage.Stage.{Stage}
-use Rattle.ppp_chat.specs.declared.stage.Stage.TheVariants.{Waiting, Over}
+use Rattle.ppp_chat.specs.declared.stage.Stage.TheVariants.{NotBegun, Waiting, Over}
 use Rattle.ppp_chat.specs.declared.step.Step.{Step}
 use Rattle.ppp_chat.specs.declared.walk.Turn.{Turn}
 
@@ -32,3 +32,7 @@ Takes steps step now old new before after (Some stage) =
 abbrev pub stage_at_end : List ℕ → Stage
 stage_at_end [] = Over Done
 stage_at_end (octet ∷ octets) = Waiting
+
+-- the script was begun
+abbrev pub IsWait : Stage → Type 0
+IsWait stage = stage ≡ NotBegun → ⊥

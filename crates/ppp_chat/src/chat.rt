@@ -2,7 +2,7 @@ ghost use Rattle.std.specs.Prelude.{◌≡◌, ◌<◌, ℕ, Bool, [], ◌∷◌
 ghost use Rattle.ppp_chat.specs.ChatOf.{course, is_last_part, first_settings};
 ghost use Rattle.ppp_chat.specs.ChatState.{ChatState, IsBegun, StandsFor, Answers, after_late, rest_of, outcome_of, sent_by, answer, answer_for};
 ghost use Rattle.ppp_chat.specs.Event.{Event, tick_at, octet_at};
-ghost use Rattle.ppp_chat.specs.Hearing.{Goes, rest_with, ending_of, is_delay_over};
+ghost use Rattle.ppp_chat.specs.Hearing.{Goes, after_ending, rest_with};
 
 use crate::directives::Directives;
 use crate::ending::{Ending, ending_with, has_passed};
@@ -183,22 +183,15 @@ impl Chat {
         }
     }
 
-    /// How the expect at hand, which began at a moment, ends with an event. The window has the event's octet.
-    fn ending(&self, began: u64, event: Event) -> Option<Ending>
-        ensures value { result ≡ ending_of self.now.left self.now.settings began self.now.window event }
-        ensures some { OnSome result (0 < length self.now.left) }
+    /// An expect has ended, and this is the place behind it.
+    fn follow(&mut self, place: usize, ending: Ending, now: u64) -> ChatNow
+        ensures script { self.new.script ≡ self.old.script }
+        ensures goes { Goes (after_ending ending (drop place self.old.script.steps) self.old.settings now) self.new result }
     {
-        let steps = self.script.steps();
-        match steps.get(self.place) {
-            Some(Step::Expect(text)) => ending_with(
-                steps,
-                &self.directives,
-                text.as_slice(),
-                began,
-                self.window.as_slice(),
-                event,
-            ),
-            _ => None,
+        match ending {
+            Ending::TimeHasCome => self.go_late(place, now),
+            Ending::Found => self.go_on(place, true, now),
+            Ending::AbortFound(number) => self.end(ChatEnd::Aborted(number)),
         }
     }
 
@@ -209,22 +202,24 @@ impl Chat {
         ensures goes { Goes (rest_with self.old event) self.new result }
     {
         self.window.hear(event.octet);
-        match self.ending(began, event) {
+        let steps = self.script.steps();
+        let Some(Step::Expect(text)) = steps.get(self.place) else {
+            return ChatNow::Going;
+        };
+        let ending = ending_with(
+            steps,
+            &self.directives,
+            text.as_slice(),
+            began,
+            self.window.as_slice(),
+            event,
+        );
+        match ending {
             None => ChatNow::Going,
-            Some(Ending::TimeHasCome) => self.go_late(self.place + 1, event.at),
-            Some(Ending::Found) => self.go_on(self.place + 1, true, event.at),
-            Some(Ending::AbortFound(number)) => self.end(ChatEnd::Aborted(number)),
-        }
-    }
-
-    /// Whether the delay at hand, which began at a moment, is over.
-    fn is_delay_over(&self, began: u64, now: u64) -> bool
-        ensures value { result ≡ is_delay_over self.now.left began now }
-        ensures some { IsTrue result → 0 < length self.now.left }
-    {
-        match self.script.steps().get(self.place) {
-            Some(Step::Pause(milliseconds)) => has_passed(began, u64::from(*milliseconds), now),
-            _ => false,
+            Some(ending) => {
+                let behind = self.place + 1;
+                self.follow(behind, ending, event.at)
+            }
         }
     }
 
@@ -234,8 +229,12 @@ impl Chat {
         ensures script { self.new.script ≡ self.old.script }
         ensures goes { Goes (rest_with self.old event) self.new result }
     {
-        if self.is_delay_over(began, event.at) {
-            self.go_on(self.place + 1, false, event.at)
+        let Some(Step::Pause(milliseconds)) = self.script.steps().get(self.place) else {
+            return ChatNow::Going;
+        };
+        if has_passed(began, u64::from(*milliseconds), event.at) {
+            let behind = self.place + 1;
+            self.go_on(behind, false, event.at)
         } else {
             ChatNow::Going
         }

@@ -1,9 +1,9 @@
-ghost use Rattle.std.specs.Prelude.{◌≡◌, ◌<◌, ◌≤◌, ℕ, Bool, [], List, Some, None, drop, length, slice_get};
+ghost use Rattle.std.specs.Prelude.{◌≡◌, ℕ, Bool, [], List, Some, IfSome, drop, slice_get};
 ghost use Rattle.ppp_chat.specs.ChatOf.{course, sending};
 ghost use Rattle.ppp_chat.specs.ChatState.{rest};
 ghost use Rattle.ppp_chat.specs.Event.{Event};
 ghost use Rattle.ppp_chat.specs.Texts.{settings_of};
-ghost use Rattle.ppp_chat.specs.Walking.{Takes, has_octets, stage_at_end};
+ghost use Rattle.ppp_chat.specs.Walking.{Takes, IsWait, stage_at_end};
 
 use crate::directives::Directives;
 use crate::now::ChatEnd;
@@ -33,7 +33,8 @@ impl Turn {
     /// Sends the octets, where there are some, or waits for the next call, where this one has sent others.
     fn send(&mut self, octets: &Text) -> Option<Stage>
         requires { self.old.met ≡ Bool.false }
-        ensures { (steps : List Step) (now : ℕ) (d : Directives) → Takes steps (Step.Send octets.now) now d d self.old self.new result }
+        ensures takes { (steps : List Step) (now : ℕ) (d : Directives) → Takes steps (Step.Send octets.now) now d d self.old self.new result }
+        ensures waits { IfSome result IsWait }
     {
         if octets.is_empty() {
             return None;
@@ -57,7 +58,8 @@ fn act(
 ) -> Option<Stage>
     requires place { slice_get steps.now place ≡ Some step.now }
     requires met { turn.old.met ≡ Bool.false }
-    ensures { Takes steps.now step.now now directives.old directives.new turn.old turn.new result }
+    ensures takes { Takes steps.now step.now now directives.old directives.new turn.old turn.new result }
+    ensures waits { IfSome result IsWait }
 {
     match step {
         Step::Abort(_) => {
@@ -93,7 +95,8 @@ fn take(
     turn: &mut Turn,
 ) -> Option<Stage>
     requires { slice_get steps.now place ≡ Some step.now }
-    ensures { Takes steps.now step.now now directives.old directives.new turn.old turn.new result }
+    ensures takes { Takes steps.now step.now now directives.old directives.new turn.old turn.new result }
+    ensures waits { IfSome result IsWait }
 {
     if let Step::Met = step {
         turn.met = false;
@@ -107,7 +110,8 @@ fn take(
 
 /// What a call waits for where no step is left.
 fn stage_at_end(sent: &SentOctets) -> Stage
-    ensures { result ≡ stage_at_end sent.now }
+    ensures value { result ≡ stage_at_end sent.now }
+    ensures waits { IsWait result }
 {
     if sent.is_empty() {
         Stage::Over(ChatEnd::Done)
@@ -124,8 +128,9 @@ pub(crate) fn walk(
     now: u64,
     directives: &mut Directives,
 ) -> Halt
-    ensures { (later : List Event) → course (drop from steps.now) met (settings_of steps.now directives.old) now Bool.false later
+    ensures goes { (later : List Event) → course (drop from steps.now) met (settings_of steps.now directives.old) now Bool.false later
         ≡ sending result.sent (rest result.stage (drop result.place steps.now) (settings_of steps.now directives.new) [] later) }
+    ensures waits { IsWait result.stage }
 {
     let mut turn = Turn {
         met,
