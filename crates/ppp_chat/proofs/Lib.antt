@@ -3,3 +3,4 @@ pub mod Sending
 pub mod Endings
 pub mod Windows
 pub mod Hearing
+pub mod Reading

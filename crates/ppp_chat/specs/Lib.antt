@@ -5,3 +5,6 @@ pub mod ChatState
 pub mod Texts
 pub mod Walking
 pub mod Hearing
+pub mod Pieces
+pub mod Words
+pub mod Reading

@@ -11,12 +11,17 @@ mod chat;
 mod directives;
 mod ending;
 mod event;
+mod fault;
 mod now;
 mod octets;
 
+mod piece;
+mod pieces;
+mod place;
 mod script;
 mod stage;
 mod step;
+mod steps;
 mod text;
 mod walk;
 mod window;
@@ -24,6 +29,7 @@ mod window;
 
 
 pub use chat::Chat;
+pub use fault::ScriptFault;
 pub use now::{ChatEnd, ChatNow};
 pub use octets::SentOctets;
 pub use script::Script;
