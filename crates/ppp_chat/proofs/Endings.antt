@@ -1,7 +1,7 @@
 -- The first ending, when the first of the events is taken off.
-use Rattle.std.proofs.Common.{ℕ, ◌≡◌, ◌+◌, ◌≤◌, zero, suc, Bool, true, false, cond, nat_le, Option, None, Some, is_none, List, [], ◌∷◌, ◌++◌, length, take, drop, refl, sym, ap, ◌∙◌, arith, append_assoc}
+use Rattle.std.proofs.Common.{ℕ, ◌≡◌, zero, suc, Bool, true, false, cond, nat_le, Option, None, Some, List, [], ◌∷◌, ◌++◌, length, take, refl, sym, ap, ◌∙◌, append_assoc}
 use Rattle.std.specs.List.{cons_option}
-use Rattle.ppp_chat.specs.ChatOf.{Course, Following, at_ending, awaiting, delaying, going}
+use Rattle.ppp_chat.specs.ChatOf.{Course, Following, at_ending, awaiting, delaying}
 use Rattle.ppp_chat.specs.Ending.{Awaited, ending, ending_at, delay_end_at, event_at, first_from, here_or}
 use Rattle.ppp_chat.specs.Event.{Event, heard}
 use Rattle.ppp_chat.specs.declared.ending.Ending.{Ending}
@@ -65,14 +65,14 @@ at-first (Some (AbortFound number)) r found late event later = refl
 -- An expect, with its first event taken off.
 pub awaiting-cons : (x : Awaited) (before : List ℕ) (found late : Following) (event : Event) (later : List Event)
     → awaiting x before found late (event ∷ later)
-      ≡ first_or (ending x (before ++ cons_option event.octet []) event) found late event later
-          (awaiting x (before ++ cons_option event.octet []) found late later)
+    ≡ first_or (ending x (before ++ cons_option event.octet []) event) found late event later
+    (awaiting x (before ++ cons_option event.octet []) found late later)
 awaiting-cons x before found late event later =
     let now = ending_at x before (event ∷ later) 0 in
     ap (λ r. at_ending (here_or 0 now r) found late (event ∷ later))
-      (from-shifted (ending_at x before (event ∷ later)) 0 (length later)
-      ∙ ap shifted (from-same (λ i. ending_at x before (event ∷ later) (suc i)) (ending_at x (before ++ cons_option event.octet []) later)
-          (at-behind x before event later) 0 (length later)))
+    (from-shifted (ending_at x before (event ∷ later)) 0 (length later)
+    ∙ ap shifted (from-same (λ i. ending_at x before (event ∷ later) (suc i)) (ending_at x (before ++ cons_option event.octet []) later)
+    (at-behind x before event later) 0 (length later)))
     ∙ at-first now (first_from (ending_at x (before ++ cons_option event.octet []) later) 0 (length later)) found late event later
 
 chosen : (b : Bool) (then : Following) (event : Event) (later : List Event) (other : Course)

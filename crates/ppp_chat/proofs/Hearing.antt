@@ -1,16 +1,15 @@
 -- What one event does while an expect or a delay goes on.
-use Rattle.std.proofs.Common.{ℕ, ◌≡◌, ◌+◌, ◌≤◌, zero, suc, Bool, true, false, cond, nat_le, Option, None, Some, List, [], ◌∷◌, ◌++◌, length, drop, map, refl, sym, ap, ◌∙◌, arith, add-one, append-nil, slice_get}
-use Rattle.std.specs.List.{cons_option, AllByRecursion}
-use Rattle.ppp_chat.specs.ChatOf.{Course, Settings, Following, ended, course, awaiting, delaying}
+use Rattle.std.proofs.Common.{ℕ, ◌≡◌, ◌+◌, ◌≤◌, zero, suc, Bool, false, cond, nat_le, Option, None, Some, List, [], ◌∷◌, ◌++◌, length, drop, map, refl, sym, ap, ◌∙◌, arith, add-one, append-nil, slice_get}
+use Rattle.std.specs.List.{cons_option}
+use Rattle.ppp_chat.specs.ChatOf.{Course, Settings, Following, course, awaiting}
 use Rattle.ppp_chat.specs.ChatState.{awaited, after_found, after_late, expecting, pausing}
 use Rattle.ppp_chat.specs.Ending.{Awaited, ending}
 use Rattle.ppp_chat.specs.Event.{Event}
 use Rattle.ppp_chat.specs.Hearing.{window_after, after_ending}
-use Rattle.ppp_chat.specs.Texts.{latest, abort_at, abort_of, settings_of, IsShort, AreShort}
+use Rattle.ppp_chat.specs.Texts.{abort_at, abort_of, settings_of, IsShort, AreShort}
 use Rattle.ppp_chat.specs.declared.directives.Directives.{Directives}
 use Rattle.ppp_chat.specs.declared.ending.Ending.{Ending}
 use Rattle.ppp_chat.specs.declared.ending.Ending.TheVariants.{TimeHasCome, Found, AbortFound}
-use Rattle.ppp_chat.specs.declared.now.ChatEnd.TheVariants.{Aborted}
 use Rattle.ppp_chat.specs.declared.stage.Stage.{Stage}
 use Rattle.ppp_chat.specs.declared.stage.Stage.TheVariants.{NotBegun, Expecting, Pausing}
 use Rattle.ppp_chat.specs.declared.step.Step.{Step}
@@ -73,36 +72,36 @@ window-awaiting x window (Some octet) found late later text aborts = awaiting-la
 expecting-step : (text : List ℕ) (left : List Step) (s : Settings) (began : ℕ) (window : List ℕ) (event : Event) (later : List Event)
     → length text ≤ 513 → NoneIsLong s.aborts
     → expecting (Expect text ∷ left) s began window (event ∷ later)
-      ≡ first_or (ending (awaited text s began) (window_after window event.octet) event) (after_found left s) (after_late left s) event later
-          (expecting (Expect text ∷ left) s began (window_after window event.octet) later)
+    ≡ first_or (ending (awaited text s began) (window_after window event.octet) event) (after_found left s) (after_late left s) event later
+    (expecting (Expect text ∷ left) s began (window_after window event.octet) later)
 expecting-step text left s began window event later short aborts =
     let x = awaited text s began in
     awaiting-cons x window (after_found left s) (after_late left s) event later
     ∙ ap (λ o. first_or o (after_found left s) (after_late left s) event later (awaiting x (window ++ cons_option event.octet []) (after_found left s) (after_late left s) later))
-        (window-ending x window event.octet event short aborts)
+    (window-ending x window event.octet event short aborts)
     ∙ ap (λ r. first_or (ending x (window_after window event.octet) event) (after_found left s) (after_late left s) event later r)
-        (window-awaiting x window event.octet (after_found left s) (after_late left s) later short aborts)
+    (window-awaiting x window event.octet (after_found left s) (after_late left s) later short aborts)
 
 -- An event while the expect at this place goes on.
 pub expect_step : (steps : List Step) (place : ℕ) (text : List ℕ) (d : Directives) (began : ℕ) (window : List ℕ) (event : Event) (later : List Event)
     → AreShort steps → slice_get steps place ≡ Some (Expect text)
     → expecting (drop place steps) (settings_of steps d) began window (event ∷ later)
-      ≡ first_or (ending (awaited text (settings_of steps d) began) (window_after window event.octet) event)
-          (after_found (drop (place + 1) steps) (settings_of steps d)) (after_late (drop (place + 1) steps) (settings_of steps d)) event later
-          (expecting (drop place steps) (settings_of steps d) began (window_after window event.octet) later)
+    ≡ first_or (ending (awaited text (settings_of steps d) began) (window_after window event.octet) event)
+    (after_found (drop (place + 1) steps) (settings_of steps d)) (after_late (drop (place + 1) steps) (settings_of steps d)) event later
+    (expecting (drop place steps) (settings_of steps d) began (window_after window event.octet) later)
 expect_step steps place text d began window event later short is =
     rw (drop-at steps place (Expect text) is)
-      (expecting-step text (drop (place + 1) steps) (settings_of steps d) began window event later
-        (short-text steps place text short is) (none-is-long steps d.aborts.items short))
+    (expecting-step text (drop (place + 1) steps) (settings_of steps d) began window event later
+    (short-text steps place text short is) (none-is-long steps d.aborts.items short))
 
 -- An event while the delay at this place goes on.
 pub pause_step : (steps : List Step) (place milliseconds : ℕ) (s : Settings) (began : ℕ) (event : Event) (later : List Event)
     → slice_get steps place ≡ Some (Pause milliseconds)
     → pausing (drop place steps) s began (event ∷ later)
-      ≡ cond (nat_le (began + milliseconds) event.at) (course (drop (place + 1) steps) false s event.at false later) (pausing (drop place steps) s began later)
+    ≡ cond (nat_le (began + milliseconds) event.at) (course (drop (place + 1) steps) false s event.at false later) (pausing (drop place steps) s began later)
 pause_step steps place milliseconds s began event later is =
     rw (drop-at steps place (Pause milliseconds) is)
-      (delaying-cons (began + milliseconds) (λ (now : ℕ) (more : List Event). course (drop (place + 1) steps) false s now false more) event later)
+    (delaying-cons (began + milliseconds) (λ (now : ℕ) (more : List Event). course (drop (place + 1) steps) false s now false more) event later)
 
 ends-so : (ending : Ending) (left : List Step) (s : Settings) (event : Event) (later : List Event) (other : Course)
     → first_or (Some ending) (after_found left s) (after_late left s) event later other ≡ after_ending ending left s event.at later
@@ -114,8 +113,8 @@ hears : (steps : List Step) (place : ℕ) (text : List ℕ) (d : Directives) (be
     → AreShort steps → slice_get steps place ≡ Some (Expect text) → w ≡ window_after window event.octet
     → o ≡ ending (awaited text (settings_of steps d) began) w event → (later : List Event)
     → expecting (drop place steps) (settings_of steps d) began window (event ∷ later)
-      ≡ first_or o (after_found (drop (place + 1) steps) (settings_of steps d)) (after_late (drop (place + 1) steps) (settings_of steps d)) event later
-          (expecting (drop place steps) (settings_of steps d) began w later)
+    ≡ first_or o (after_found (drop (place + 1) steps) (settings_of steps d)) (after_late (drop (place + 1) steps) (settings_of steps d)) event later
+    (expecting (drop place steps) (settings_of steps d) began w later)
 hears steps place text d began window w event o short is after ends later =
     rw (ends, after) (expect_step steps place text d began window event later short is)
 
@@ -124,7 +123,7 @@ pub hears-end : (steps : List Step) (place : ℕ) (text : List ℕ) (d : Directi
     → AreShort steps → slice_get steps place ≡ Some (Expect text) → w ≡ window_after window event.octet
     → Some how ≡ ending (awaited text (settings_of steps d) began) w event → (later : List Event)
     → expecting (drop place steps) (settings_of steps d) began window (event ∷ later)
-      ≡ after_ending how (drop (place + 1) steps) (settings_of steps d) event.at later
+    ≡ after_ending how (drop (place + 1) steps) (settings_of steps d) event.at later
 hears-end steps place text d began window w event how short is after ends later =
     hears steps place text d began window w event (Some how) short is after ends later
     ∙ ends-so how (drop (place + 1) steps) (settings_of steps d) event later (expecting (drop place steps) (settings_of steps d) began w later)

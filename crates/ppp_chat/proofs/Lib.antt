@@ -4,3 +4,5 @@ pub mod Endings
 pub mod Windows
 pub mod Hearing
 pub mod Reading
+pub mod PartsRead
+pub mod Numbers

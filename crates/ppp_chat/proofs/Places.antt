@@ -1,6 +1,6 @@
 -- The abort strings, kept by the places of their steps.
-use Rattle.std.proofs.Common.{ℕ, ◌≡◌, ◌+◌, ◌<◌, zero, suc, slice_get, slice_index_or, Bool, true, false, not, cond, nat_lt, Option, None, Some, List, [], ◌∷◌, ◌++◌, map, filter, length, refl, sym, ap, ◌∙◌, arith}
-use Rattle.std.specs.List.{position, position_or_len, prefix_len}
+use Rattle.std.proofs.Common.{ℕ, ◌≡◌, ◌<◌, zero, suc, slice_get, slice_index_or, Bool, not, Some, List, [], ◌∷◌, map, length, refl, sym, ap, arith}
+use Rattle.std.specs.List.{position, prefix_len}
 use Rattle.ppp_chat.specs.declared.step.Step.{Step}
 
 prefix_len-map : (p : List ℕ → Bool) (f : ℕ → List ℕ) (xs : List ℕ) → prefix_len p (map f xs) ≡ prefix_len (λ x. p (f x)) xs

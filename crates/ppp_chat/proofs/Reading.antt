@@ -1,5 +1,5 @@
 -- Reading the pieces of a part, from left to right.
-use Rattle.std.proofs.Common.{ℕ, ◌≡◌, zero, suc, Option, None, Some, option_map, List, [], ◌∷◌, ◌++◌, length, ◌-◌, ◌≤◌, take, drop, get_or, refl, sym, ap, ◌∙◌, arith, append_assoc, length-drop}
+use Rattle.std.proofs.Common.{ℕ, ◌≡◌, zero, suc, Option, None, Some, List, [], ◌∷◌, ◌++◌, length, ◌-◌, ◌≤◌, take, drop, get_or, refl, sym, ap, ◌∙◌, arith, append_assoc, length-drop}
 use Rattle.std.proofs.lemmas.List.{take_all}
 use Rattle.ppp_chat.specs.Pieces.{pieces_behind, with_piece, first_piece}
 use Rattle.ppp_chat.specs.declared.piece.Piece.{Piece}
@@ -31,7 +31,7 @@ pub taken : (octet : ℕ) (others : List ℕ) (s : Spelled) → Some s ≡ first
     → pieces_behind 0 (octet ∷ others) ≡ with_piece s.piece (pieces_behind 0 (take (length others - s.more) (drop s.more others)))
 taken octet others s is =
     let all : take (length others - s.more) (drop s.more others) ≡ drop s.more others =
-        take_all (length others - s.more) (drop s.more others) (omega (arith, length-drop s.more others)) in
+    take_all (length others - s.more) (drop s.more others) (omega (arith, length-drop s.more others)) in
     rw (← is, all) (ap (λ r. with_piece s.piece r) (pieces-drop s.more others))
 
 -- One more piece is read.

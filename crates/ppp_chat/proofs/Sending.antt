@@ -1,10 +1,10 @@
 -- A send, and where a call that has sent stops.
-use Rattle.std.proofs.Common.{ℕ, ◌≡◌, Bool, true, false, nat_eq, List, [], ◌∷◌, ◌++◌, length, refl, sym, ap, ◌∙◌, arith}
+use Rattle.std.proofs.Common.{ℕ, ◌≡◌, true, false, nat_eq, List, [], ◌∷◌, length, refl, sym, ◌∙◌, arith}
 use Rattle.std.proofs.lemmas.Bool.Decides.{nat_tests}
-use Rattle.ppp_chat.specs.ChatOf.{Settings, Course, course, sending, at_next}
+use Rattle.ppp_chat.specs.ChatOf.{Settings, Course, sending, at_next}
 use Rattle.ppp_chat.specs.ChatState.{rest}
 use Rattle.ppp_chat.specs.Event.{Event}
-use Rattle.ppp_chat.specs.Walking.{so_far, has_octets}
+use Rattle.ppp_chat.specs.Walking.{so_far}
 use Rattle.ppp_chat.specs.declared.stage.Stage.TheVariants.{Waiting}
 use Rattle.ppp_chat.specs.declared.step.Step.{Step}
 use Rattle.ppp_chat.specs.declared.step.Step.TheVariants.{Send}

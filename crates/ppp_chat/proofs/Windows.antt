@@ -1,16 +1,14 @@
 -- A string of at most 513 octets is a suffix of octets exactly where it is one of their last 513.
-use Rattle.std.proofs.Common.{ℕ, ◌≡◌, ◌+◌, ◌-◌, ◌≤◌, zero, suc, Bool, true, false, not, cond, nat_le, nat_eq, nat_lt, Option, None, Some, is_none, option_map, List, [], ◌∷◌, ◌++◌, length, take, drop, map, refl, sym, ap, ◌∙◌, arith, append_assoc, append-nil, length-append, length-drop, inl, inr}
-use Rattle.std.specs.List.{AllByRecursion, ends_with, position, prefix_len}
+use Rattle.std.proofs.Common.{ℕ, ◌≡◌, ◌+◌, ◌-◌, ◌≤◌, suc, not, cond, nat_eq, nat_lt, None, Some, option_map, List, [], ◌∷◌, ◌++◌, length, take, drop, refl, sym, ap, ◌∙◌, arith, append_assoc, append-nil, length-append, length-drop, inl, inr}
+use Rattle.std.specs.List.{AllByRecursion, prefix_len}
 use Rattle.std.specs.Cmp.Lexicographic.{pointwise}
 use Rattle.std.proofs.lemmas.Bool.{cases_lt}
 use Rattle.std.proofs.lemmas.List.{take-append-drop}
 use Rattle.std.proofs.Math.Seq.{drop-append-add}
-use Rattle.ppp_chat.specs.ChatOf.{Course, Following, at_ending, awaiting}
-use Rattle.ppp_chat.specs.Ending.{Awaited, is_found, abort_found, ending, ending_at, event_at, first_from}
+use Rattle.ppp_chat.specs.ChatOf.{Following, at_ending, awaiting}
+use Rattle.ppp_chat.specs.Ending.{Awaited, is_found, abort_found, ending, ending_at, event_at}
 use Rattle.ppp_chat.specs.Event.{Event, heard}
 use Rattle.ppp_chat.specs.Texts.{latest}
-use Rattle.ppp_chat.specs.declared.ending.Ending.{Ending}
-use Rattle.ppp_chat.specs.declared.ending.Ending.TheVariants.{TimeHasCome, Found, AbortFound}
 use Rattle.ppp_chat.proofs.Endings.{from-same}
 
 -- the end of a list that is not shorter does not depend on what stands before it
@@ -26,7 +24,7 @@ last-found n octets more text short =
     let front = take (length octets - n) octets in
     let back = drop (length octets - n) octets in
     let split : octets ++ more ≡ front ++ (back ++ more) =
-        ap (λ l. l ++ more) (sym (take-append-drop (length octets - n) octets)) ∙ append_assoc front back more in
+    ap (λ l. l ++ more) (sym (take-append-drop (length octets - n) octets)) ∙ append_assoc front back more in
     elim (cases_lt (length octets) n) [
       | inl below ↦
           let none : length octets - n ≡ 0 = omega arith in
@@ -61,8 +59,8 @@ pub awaiting-latest : (x : Awaited) (octets : List ℕ) (found late : Following)
     → awaiting x octets found late later ≡ awaiting x (latest octets) found late later
 awaiting-latest x octets found late later text aborts =
     ap (λ r. at_ending r found late later)
-      (from-same (ending_at x octets later) (ending_at x (latest octets) later)
-        (λ i. ending-latest x octets (heard (take (suc i) later)) (event_at later i) text aborts) 0 (length later))
+    (from-same (ending_at x octets later) (ending_at x (latest octets) later)
+    (λ i. ending-latest x octets (heard (take (suc i) later)) (event_at later i) text aborts) 0 (length later))
 
 pub ending-latest-now : (x : Awaited) (octets : List ℕ) (event : Event) → length x.text ≤ 513 → NoneIsLong x.aborts
     → ending x octets event ≡ ending x (latest octets) event

@@ -94,9 +94,9 @@ course (Timeout seconds ∷ steps) false s now has_sent later = course steps fal
 course (Expect [] ∷ steps) false s now has_sent later = course steps true s now has_sent later
 course (Expect (octet ∷ octets) ∷ steps) false s now has_sent later =
     awaiting (record { text = octet ∷ octets; until = now + s.timeout; aborts = s.aborts }) []
-      (λ (found : ℕ) (more : List Event). course steps true s found false more)
-      (λ (late : ℕ) (more : List Event). if is_last_part steps then ended TimedOut else course steps false s late false more)
-      later
+    (λ (found : ℕ) (more : List Event). course steps true s found false more)
+    (λ (late : ℕ) (more : List Event). if is_last_part steps then ended TimedOut else course steps false s late false more)
+    later
 course (Send [] ∷ steps) false s now has_sent later = course steps false s now has_sent later
 course (Send (octet ∷ octets) ∷ steps) false s now has_sent later =
     if has_sent then at_next (λ (next : ℕ) (more : List Event). sending (octet ∷ octets) (course steps false s next true more)) later

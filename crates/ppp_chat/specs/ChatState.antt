@@ -1,5 +1,5 @@
 -- How a conversation stands for the calls that it heard since it was begun.
-use Rattle.std.specs.Prelude.{ℕ, ◌+◌, ◌≡◌, Bool, true, false, if◌then◌else◌, Option, None, Some, List, [], ◌∷◌, ◌++◌}
+use Rattle.std.specs.Prelude.{ℕ, ◌+◌, ◌≡◌, true, false, if◌then◌else◌, Option, None, Some, List, [], ◌∷◌, ◌++◌}
 use Rattle.ppp_chat.specs.ChatOf.{ChatScript, Course, Settings, going, ended, sending, at_next, awaiting, delaying, is_last_part, course, ChatOf}
 use Rattle.ppp_chat.specs.Ending.{Awaited}
 use Rattle.ppp_chat.specs.Event.{Event}
@@ -10,7 +10,7 @@ use Rattle.ppp_chat.specs.declared.now.ChatNow.TheVariants.{Going, Sent, Done, T
 use Rattle.ppp_chat.specs.declared.stage.Stage.{Stage}
 use Rattle.ppp_chat.specs.declared.stage.Stage.TheVariants.{NotBegun, Expecting, Pausing, Waiting, Over}
 use Rattle.ppp_chat.specs.declared.step.Step.{Step}
-use Rattle.ppp_chat.specs.declared.step.Step.TheVariants.{Abort, ClearAbort, Timeout, Expect, Met, Send, Pause}
+use Rattle.ppp_chat.specs.declared.step.Step.TheVariants.{Expect, Pause}
 
 -- an expect that began at this moment
 abbrev pub awaited : List ℕ → Settings → ℕ → Awaited

@@ -1,5 +1,5 @@
 -- The calls that a conversation hears, as a list: its beginning, the octets that come, and the moments at which its time is looked at.
-use Rattle.std.specs.Prelude.{ℕ, Option, None, Some, List}
+use Rattle.std.specs.Prelude.{ℕ, None, Some, List}
 use Rattle.std.specs.List.{filter_map}
 pub use Rattle.ppp_chat.specs.declared.event.Event.{Event}
 

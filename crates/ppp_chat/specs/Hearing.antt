@@ -1,8 +1,7 @@
 -- What one call does to a conversation that was begun.
-use Rattle.std.specs.Prelude.{ℕ, ◌+◌, ◌≡◌, nat_le, Bool, false, Option, None, Some, List, [], ◌∷◌, ◌++◌, drop}
+use Rattle.std.specs.Prelude.{ℕ, ◌≡◌, Option, None, Some, List, [], ◌∷◌, ◌++◌}
 use Rattle.ppp_chat.specs.ChatOf.{Course, Settings, ended, sending}
-use Rattle.ppp_chat.specs.ChatState.{ChatState, IsBegun, awaited, after_found, after_late, rest_of, outcome_of, sent_by, answer}
-use Rattle.ppp_chat.specs.Ending.{ending}
+use Rattle.ppp_chat.specs.ChatState.{ChatState, IsBegun, after_found, after_late, rest_of, outcome_of, sent_by, answer}
 use Rattle.ppp_chat.specs.Event.{Event}
 use Rattle.ppp_chat.specs.Texts.{latest}
 use Rattle.ppp_chat.specs.declared.ending.Ending.{Ending}
@@ -10,7 +9,6 @@ use Rattle.ppp_chat.specs.declared.ending.Ending.TheVariants.{TimeHasCome, Found
 use Rattle.ppp_chat.specs.declared.now.ChatEnd.TheVariants.{Aborted}
 use Rattle.ppp_chat.specs.declared.now.ChatNow.{ChatNow}
 use Rattle.ppp_chat.specs.declared.step.Step.{Step}
-use Rattle.ppp_chat.specs.declared.step.Step.TheVariants.{Abort, ClearAbort, Timeout, Expect, Met, Send, Pause}
 
 -- the window after a call
 abbrev pub window_after : List ℕ → Option ℕ → List ℕ

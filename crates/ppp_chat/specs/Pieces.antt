@@ -9,17 +9,17 @@ use Rattle.ppp_chat.specs.declared.piece.Spelled.{Spelled}
 -- what a backslash and one octet stand for; digits of base 8 stand below
 abbrev pub escapes : List (ℕ × Piece)
 escapes =
-    (98, Octet 0x08)      -- \b  backspace
-    ∷ (110, Octet 0x0a)   -- \n  newline
-    ∷ (114, Octet 0x0d)   -- \r  return
-    ∷ (115, Octet 0x20)   -- \s  space
-    ∷ (116, Octet 0x09)   -- \t  tab
-    ∷ (92, Octet 0x5c)    -- \\  a backslash
-    ∷ (78, Octet 0x00)    -- \N  the octet 00
-    ∷ (100, Delay 1000)   -- \d  a delay of 1,000 ms
-    ∷ (112, Delay 100)    -- \p  a delay of 100 ms
-    ∷ (99, NoReturn)      -- \c  no return, at the end of a send
-    ∷ (113, Nothing)      -- \q  nothing
+    (98, Octet 0x08)  -- \b  backspace
+    ∷ (110, Octet 0x0a)  -- \n  newline
+    ∷ (114, Octet 0x0d)  -- \r  return
+    ∷ (115, Octet 0x20)  -- \s  space
+    ∷ (116, Octet 0x09)  -- \t  tab
+    ∷ (92, Octet 0x5c)  -- \\  a backslash
+    ∷ (78, Octet 0x00)  -- \N  the octet 00
+    ∷ (100, Delay 1000)  -- \d  a delay of 1,000 ms
+    ∷ (112, Delay 100)  -- \p  a delay of 100 ms
+    ∷ (99, NoReturn)  -- \c  no return, at the end of a send
+    ∷ (113, Nothing)  -- \q  nothing
     ∷ []
 
 -- a piece that an octet more, behind the first, spells

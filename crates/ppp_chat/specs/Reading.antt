@@ -2,8 +2,7 @@
 use Rattle.std.specs.Prelude.{ℕ, ◌≡◌, Option, None, Some, Result, Ok, Err, List, ◌++◌, MatchResult}
 use Rattle.ppp_chat.specs.ChatOf.{ChatScript}
 use Rattle.ppp_chat.specs.declared.fault.ScriptFault.{ScriptFault}
-use Rattle.ppp_chat.specs.declared.fault.ScriptFault.TheVariants.{BadEscape, BadNumber, TooManyAborts, TooLong, NoMemory}
-use Rattle.ppp_chat.specs.declared.piece.Piece.{Piece}
+use Rattle.ppp_chat.specs.declared.fault.ScriptFault.TheVariants.{BadEscape, NoMemory}
 use Rattle.ppp_chat.specs.declared.step.Step.{Step}
 
 -- The answer is what the words are, unless memory ran out.

@@ -1,5 +1,5 @@
 -- What the machine keeps in short: the abort strings by the places of their steps.
-use Rattle.std.specs.Prelude.{ℕ, ◌-◌, ◌≤◌, Option, None, Some, List, [], ◌∷◌, map, length, drop, slice_get}
+use Rattle.std.specs.Prelude.{ℕ, ◌-◌, ◌≤◌, Option, Some, List, [], map, length, drop, slice_get}
 use Rattle.std.specs.List.{AllByRecursion}
 use Rattle.ppp_chat.specs.ChatOf.{Settings}
 use Rattle.ppp_chat.specs.declared.directives.Directives.{Directives}

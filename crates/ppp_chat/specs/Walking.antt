@@ -5,7 +5,6 @@ use Rattle.ppp_chat.specs.ChatState.{rest}
 use Rattle.ppp_chat.specs.Event.{Event}
 use Rattle.ppp_chat.specs.Texts.{settings_of}
 use Rattle.ppp_chat.specs.declared.directives.Directives.{Directives}
-use Rattle.ppp_chat.specs.declared.now.ChatEnd.{ChatEnd}
 use Rattle.ppp_chat.specs.declared.now.ChatEnd.TheVariants.{Done}
 use Rattle.ppp_chat.specs.declared.stage.Stage.{Stage}
 use Rattle.ppp_chat.specs.declared.stage.Stage.TheVariants.{NotBegun, Waiting, Over}
@@ -26,7 +25,7 @@ Takes steps step now old new before after None =
     (left : List Step) (later : List Event) → so_far before (step ∷ left) (settings_of steps old) now later ≡ so_far after left (settings_of steps new) now later
 Takes steps step now old new before after (Some stage) =
     (left : List Step) (later : List Event) → so_far before (step ∷ left) (settings_of steps old) now later
-      ≡ sending after.sent (rest stage (step ∷ left) (settings_of steps new) [] later)
+    ≡ sending after.sent (rest stage (step ∷ left) (settings_of steps new) [] later)
 
 -- where no step is left
 abbrev pub stage_at_end : List ℕ → Stage

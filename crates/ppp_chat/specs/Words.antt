@@ -1,11 +1,11 @@
 -- What each word of a script stands for (chat(8), "Chat script").
-use Rattle.std.specs.Prelude.{ℕ, ◌+◌, ◌-◌, ◌*◌, nat_le, nat_eq, nat_lt, ◌==◌, Bool, true, false, ◌&&◌, ◌||◌, if◌then◌else◌, Option, None, Some, Result, Ok, Err, List, [], ◌∷◌, ◌++◌, length, slice_get, codes}
+use Rattle.std.specs.Prelude.{ℕ, ◌+◌, ◌-◌, ◌*◌, nat_le, nat_eq, ◌==◌, Bool, true, false, ◌&&◌, if◌then◌else◌, Option, None, Some, Result, Ok, Err, List, [], ◌∷◌, ◌++◌, length, slice_get, codes}
 use Rattle.std.specs.Cmp.Lexicographic.{pointwise}
 use Rattle.std.specs.List.{slice_split}
 use Rattle.ppp_chat.specs.ChatOf.{Settings, with_abort, without_abort}
 use Rattle.ppp_chat.specs.Pieces.{pieces_of, text_of}
 use Rattle.ppp_chat.specs.declared.fault.ScriptFault.{ScriptFault}
-use Rattle.ppp_chat.specs.declared.fault.ScriptFault.TheVariants.{BadEscape, BadNumber, TooManyAborts, TooLong, NoMemory}
+use Rattle.ppp_chat.specs.declared.fault.ScriptFault.TheVariants.{BadEscape, BadNumber, TooManyAborts, TooLong}
 use Rattle.ppp_chat.specs.declared.piece.Piece.{Piece}
 use Rattle.ppp_chat.specs.declared.piece.Piece.TheVariants.{Octet, Delay, NoReturn, Nothing}
 use Rattle.ppp_chat.specs.declared.place.Place.{Place}

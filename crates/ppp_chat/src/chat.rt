@@ -34,8 +34,13 @@ impl Model for Chat {
 
     ghost Value = { ChatState };
 
-    ghost view = { λ chat. record { script = chat.script; stage = chat.stage; left = drop chat.place chat.script.steps;
-        settings = settings_of chat.script.steps chat.directives; window = chat.window } };
+    ghost view = { λ chat. record {
+      script = chat.script;
+      stage = chat.stage;
+      left = drop chat.place chat.script.steps;
+      settings = settings_of chat.script.steps chat.directives;
+      window = chat.window;
+    } };
 }
 
 /// Whether nothing follows, at this place, for an expect that is late.
@@ -148,13 +153,7 @@ impl Chat {
         ensures script { self.new.script ≡ self.old.script }
         ensures goes { Goes (course (drop place self.old.script.steps) met self.old.settings now Bool.false) self.new result }
     {
-        let halt = walk(
-            self.script.steps(),
-            place,
-            met,
-            now,
-            &mut self.directives,
-        );
+        let halt = walk(self.script.steps(), place, met, now, &mut self.directives);
         self.place = halt.place;
         self.stage = halt.stage;
         self.window.clear();

@@ -2,6 +2,7 @@ ghost use Rattle.std.specs.Prelude.{◌≡◌, ℕ, ◌*◌, ◌<◌, ◌≤◌,
 ghost use Rattle.ppp_chat.specs.ChatOf.{with_abort, without_abort, with_timeout};
 ghost use Rattle.ppp_chat.specs.Ending.{abort_found, is_found};
 ghost use Rattle.ppp_chat.specs.Texts.{abort_at, settings_of};
+ghost use Rattle.ppp_chat.specs.Words.{directed};
 ghost use Rattle.std.specs.List.{position};
 ghost use Rattle.ppp_chat.specs.declared.step.Step.{Step};
 
@@ -61,6 +62,18 @@ impl Directives {
             }
         }
         self.aborts = kept;
+    }
+
+    /// Does what a step sets of the abort strings, if it does.
+    pub fn obey(&mut self, steps: &[Step], place: usize, step: &Step)
+        requires { slice_get steps.now place ≡ Some step.now }
+        ensures { (left : List Step) → directed (settings_of steps.now self.old) (step.now ∷ left) ≡ directed (settings_of steps.now self.new) left }
+    {
+        match step {
+            Step::Abort(_) => self.set_abort(place),
+            Step::ClearAbort(text) => self.clear_abort(steps, text.as_slice()),
+            Step::Timeout(_) | Step::Expect(_) | Step::Met | Step::Send(_) | Step::Pause(_) => {}
+        }
     }
 
     /// An expect is late after so many seconds.

@@ -14,19 +14,19 @@ mod event;
 mod fault;
 mod now;
 mod octets;
-
+mod parts;
 mod piece;
 mod pieces;
 mod place;
 mod script;
+mod send;
 mod stage;
 mod step;
 mod steps;
 mod text;
 mod walk;
 mod window;
-
-
+mod word;
 
 pub use chat::Chat;
 pub use fault::ScriptFault;

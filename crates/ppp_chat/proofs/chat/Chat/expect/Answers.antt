@@ -1,4 +1,4 @@
-use Rattle.std.proofs.Common.{refl, sym, ◌≡◌, ◌∙◌, ap, Some, None}
+use Rattle.std.proofs.Common.{refl, sym, ◌≡◌, ◌∙◌, ap}
 use Rattle.ppp_chat.specs.ChatState.{ChatState}
 use Rattle.ppp_chat.specs.declared.stage.Stage.TheVariants.{Expecting}
 use Rattle.ppp_chat.proofs.Hearing.{hears-none, hears-end, begun-expecting}
@@ -14,7 +14,7 @@ returns-in-None-clause-goes c =
     let stage : c.self.inside.stage ≡ Expecting c.args.began = ap (λ (s : ChatState). s.stage) c.self.view_is ∙ c.requires in
     record {
       goes = λ later. rw (← c.self.view_is, stage)
-        (hears-none c.self.inside.script.steps c.self.inside.place c.in-Some-Expect.text c.self.inside.directives c.args.began c.self.inside.window c.hear.new.self c.args.event
+          (hears-none c.self.inside.script.steps c.self.inside.place c.in-Some-Expect.text c.self.inside.directives c.args.began c.self.inside.window c.hear.new.self c.args.event
           c.steps-steps.ensures.short got c.hear.ensures ends later);
       is = rw stage refl;
       is_begun = begun-expecting c.self.inside.stage c.args.began stage;
@@ -30,7 +30,7 @@ returns-in-Some-clause-goes c =
     let goes = c.follow.ensures.goes in
     record {
       goes = λ later. rw (← c.self.view_is, stage)
-        (hears-end c.self.inside.script.steps c.self.inside.place c.in-Some-Expect.text c.self.inside.directives c.args.began c.self.inside.window c.hear.new.self c.args.event c.in-Some.ending
+          (hears-end c.self.inside.script.steps c.self.inside.place c.in-Some-Expect.text c.self.inside.directives c.args.began c.self.inside.window c.hear.new.self c.args.event c.in-Some.ending
           c.steps-steps.ensures.short got c.hear.ensures ends later ∙ goes.goes later);
       is = goes.is;
       is_begun = goes.is_begun;

@@ -1,4 +1,4 @@
-use Rattle.std.proofs.Common.{rules, arith, sym, ◌∙◌, ap, ◌+◌, ℕ, option_map, Option, None, Some}
+use Rattle.std.proofs.Common.{arith, sym, ◌∙◌, ap, ◌+◌, ℕ, option_map, Option}
 use Rattle.ppp_chat.specs.Ending.{is_found}
 use Rattle.ppp_chat.specs.Texts.{abort_at}
 use Rattle.ppp_chat.proofs.Places.{position-map}

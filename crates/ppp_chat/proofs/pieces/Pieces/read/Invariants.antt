@@ -1,4 +1,4 @@
-use Rattle.std.proofs.Common.{◌≡◌, ℕ, List, length}
+use Rattle.std.proofs.Common.{◌≡◌, length}
 use Rattle.ppp_chat.specs.Pieces.{pieces_behind, unquoted}
 use Rattle.ppp_chat.proofs.Reading.{before_all}
 use Rattle.ppp_chat.proofs.pieces.Pieces.read.Given as goal

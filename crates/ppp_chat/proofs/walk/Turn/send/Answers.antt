@@ -1,7 +1,6 @@
-use Rattle.std.proofs.Common.{◌≡◌, ℕ, List, rules, sym, ap, ◌∙◌}
+use Rattle.std.proofs.Common.{ℕ, List, rules, sym, ap, ◌∙◌}
 use Rattle.ppp_chat.specs.Texts.{settings_of}
 use Rattle.ppp_chat.specs.Walking.{so_far}
-use Rattle.ppp_chat.specs.declared.walk.Turn.{Turn}
 use Rattle.ppp_chat.proofs.Sending.{send_waits, send_sends}
 use Rattle.ppp_chat.proofs.walk.Turn.send.Goals as goal
 
