@@ -100,6 +100,7 @@ impl Chat {
         ensures script { self.new.script ≡ self.old.script }
         ensures stands { StandsFor self.new (tick_at now ∷ []) }
         ensures answers { Answers self.new.script [] (tick_at now) result }
+        ensures stage { result ≡ answer (sent_by result) (outcome_of self.new.stage) }
     {
         self.directives = Directives::new(self.script.timeout_s());
         self.go_on(0, false, now)
@@ -112,6 +113,10 @@ impl Chat {
         ensures script { self.new.script ≡ self.old.script }
         ensures stands { (calls : List Event) → StandsFor self.old calls → StandsFor self.new (calls ++ octet_at octet now ∷ []) }
         ensures answers { (calls : List Event) → StandsFor self.old calls → Answers self.new.script calls (octet_at octet now) result }
+
+        // Where the script has ended, the answer is the same again.
+        ensures stage { result ≡ answer (sent_by result) (outcome_of self.new.stage) }
+        ensures again { (how : ChatEnd) → self.old.stage ≡ Stage.Over how → (result ≡ answer_for (Some how)) × (self.new ≡ self.old) }
     {
         self.hear(Event {
             at: now,
@@ -126,6 +131,10 @@ impl Chat {
         ensures script { self.new.script ≡ self.old.script }
         ensures stands { (calls : List Event) → StandsFor self.old calls → StandsFor self.new (calls ++ tick_at now ∷ []) }
         ensures answers { (calls : List Event) → StandsFor self.old calls → Answers self.new.script calls (tick_at now) result }
+
+        // Where the script has ended, the answer is the same again.
+        ensures stage { result ≡ answer (sent_by result) (outcome_of self.new.stage) }
+        ensures again { (how : ChatEnd) → self.old.stage ≡ Stage.Over how → (result ≡ answer_for (Some how)) × (self.new ≡ self.old) }
     {
         self.hear(Event {
             at: now,
@@ -138,6 +147,7 @@ impl Chat {
         requires { IsBegun self.old }
         ensures script { self.new.script ≡ self.old.script }
         ensures goes { Goes (rest_with self.old event) self.new result }
+        ensures again { (how : ChatEnd) → self.old.stage ≡ Stage.Over how → (result ≡ answer_for (Some how)) × (self.new ≡ self.old) }
     {
         match self.stage {
             Stage::NotBegun => unreachable!(),

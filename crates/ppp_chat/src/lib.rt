@@ -31,5 +31,8 @@ mod word;
 pub use chat::Chat;
 pub use fault::ScriptFault;
 pub use now::{ChatEnd, ChatNow};
-pub use octets::SentOctets;
+pub use octets::{MOST_SENT, SentOctets};
 pub use script::Script;
+
+#[cfg(test)]
+mod tests;
