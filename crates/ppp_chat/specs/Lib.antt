@@ -1,0 +1,10 @@
+pub mod Event
+pub mod Ending
+pub mod ChatOf
+pub mod ChatState
+pub mod Texts
+pub mod Walking
+pub mod Hearing
+pub mod Pieces
+pub mod Words
+pub mod Reading
