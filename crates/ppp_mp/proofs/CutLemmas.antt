@@ -1,22 +1,20 @@
 -- How far pieces of one size reach.
-use Rattle.std.proofs.Common.{◌≡◌, ℕ, suc, ◌+◌, ◌-◌, ◌*◌, ◌/◌, ◌%◌, ◌<◌, ◌≤◌, min, subst, slice_index_or, List, [], ◌∷◌, length, All, arith, inl, inr}
+use Rattle.std.proofs.Common.{◌≡◌, ℕ, suc, ◌+◌, ◌-◌, ◌*◌, ◌/◌, ◌%◌, ◌<◌, ◌≤◌, min, subst, slice_index_or, List, [], ◌∷◌, length, arith, inl, inr}
 use Rattle.std.specs.List.{fold}
 use Rattle.std.proofs.Math.Nat.{mul-le-mul_right, mul-le-mul_left, mul_comm, mul-suc, zero-mul}
-use Rattle.std.proofs.lemmas.List.Elements.{All-head, All-tail}
+use Rattle.ppp_mp.specs.Members.{AreMembers}
 use Rattle.std.proofs.lemmas.Bool.Decides.{nat_tests}
 use Rattle.std.proofs.lemmas.Bool.{cases_lt}
 use Rattle.ppp_mp.specs.declared.members.MemberView.{MemberView}
 use Rattle.ppp_mp.specs.declared.cuts.CutPiece.{CutPiece}
 use Rattle.ppp_mp.specs.Cut.{Cut, IsPiece, share, least_mru, piece_size}
 
-fold-wide : (members : List MemberView) (most : ℕ) → 128 ≤ most → All (λ (member : MemberView). 128 ≤ member.mru) members → 128 ≤ fold (λ least (member : MemberView). min least member.mru) most members
-fold-wide [] most wide all = wide
-fold-wide (member ∷ members) most wide all =
-    let here : 128 ≤ member.mru = All-head (λ (m : MemberView). 128 ≤ m.mru) member members all in
-    fold-wide members (min most member.mru) (omega arith) (All-tail (λ (m : MemberView). 128 ≤ m.mru) member members all)
+fold-wide : (members : List MemberView) (low most : ℕ) → 128 ≤ most → AreMembers low members → 128 ≤ fold (λ least (member : MemberView). min least member.mru) most members
+fold-wide [] low most wide all = wide
+fold-wide (member ∷ members) low most wide all = fold-wide members member.link (min most member.mru) (let here : 128 ≤ member.mru = all.2 in omega arith) all.3
 
-pub least-wide : (members : List MemberView) → All (λ (member : MemberView). 128 ≤ member.mru) members → 128 ≤ least_mru members
-least-wide members all = fold-wide members 65535 (omega arith) all
+pub least-wide : (members : List MemberView) → AreMembers 0 members → 128 ≤ least_mru members
+least-wide members all = fold-wide members 0 65535 (omega arith) all
 
 divided : (len members : ℕ) → 0 < len → 0 < members → members ≤ 16 → (0 < (len + members - 1) / members) × (len ≤ 17 * ((len + members - 1) / members))
 divided len members some members_some few =

@@ -4,7 +4,7 @@ use Rattle.std.proofs.lemmas.Bool.{cases_lt}
 use Rattle.ppp_mp.specs.Whole.{Begun}
 use Rattle.ppp_mp.specs.Delivered.{Gathering, Rule, Rules, Settles, ruled, behind}
 use Rattle.ppp_mp.proofs.RuleLemmas.{inside_rests}
-use Rattle.ppp_mp.proofs.Taking.{some_same}
+use Rattle.ppp_mp.proofs.Rests.{some_same}
 
 none-some : (x : Gathering) → None ≡ Some x → ⊥
 none-some x e = cc

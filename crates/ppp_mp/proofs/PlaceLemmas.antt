@@ -1,6 +1,8 @@
 -- Places of waiting pieces.
-use Rattle.std.proofs.Common.{cond, nat_eq, ◌≡◌, ◌-◌, length-append, nat_lt, Bool, true, false, not, ℕ, ◌+◌, ◌<◌, ◌≤◌, zero, suc, List, [], ◌∷◌, length, Option, None, Some, replicate, refl, ap, ◌∙◌, arith}
-use Rattle.std.proofs.lemmas.List.{get_or-replicate, get_or_past, length-replicate}
+use Rattle.std.proofs.Common.{cond, nat_eq, ◌≡◌, ◌-◌, length-append, nat_lt, Bool, true, false, not, ℕ, ◌+◌, ◌<◌, ◌≤◌, zero, suc, List, [], ◌∷◌, length, Option, None, Some, ◌++◌, drop, min, slice_set, refl, sym, ap, ◌∙◌, arith}
+use Rattle.std.proofs.lemmas.List.{get_or_past}
+use Rattle.std.proofs.Math.Seq.{drop-length}
+use Rattle.std.proofs.Math.ListN.{drop_of_length-le}
 use Rattle.std.proofs.lemmas.Bool.{cases_lt}
 use Rattle.std.proofs.lemmas.Bool.Decides.{nat_tests}
 use Rattle.std.proofs.Common.{inl, inr}
@@ -9,14 +11,36 @@ use Rattle.ppp_mp.specs.declared.places.WaitingPiece.{WaitingPiece}
 use Rattle.ppp_mp.specs.Places.{place, joined_there, octets_there, tally}
 use Rattle.std.proofs.Math.ListN.{get_or}
 
-pub none-replicate : (n i : ℕ) → place (replicate n None) i ≡ None
-none-replicate n i = elim (cases_lt i n) [
-  | inl below ↦ get_or-replicate n i None None below
-  | inr past ↦ get_or_past (replicate n None) i None (omega (arith, length-replicate n (let none : Option WaitingPiece = None in none)))
-]
-
-pub none-past : (places : List (Option WaitingPiece)) (i n : ℕ) → length places ≡ n → n ≤ i → place places i ≡ None
+pub none-past : (places : List (Option WaitingPiece)) (i n : ℕ) → length places ≤ n → n ≤ i → place places i ≡ None
 none-past places i n len past = get_or_past places i None (omega arith)
+
+-- An empty place at the end hides none.
+pub none-more : (places : List (Option WaitingPiece)) (j : ℕ) → place (places ++ None ∷ []) j ≡ place places j
+none-more [] zero = refl
+none-more [] (suc j) = refl
+none-more (p ∷ places) zero = refl
+none-more (p ∷ places) (suc j) = none-more places j
+
+-- a place that is set
+pub set-place : (places : List (Option WaitingPiece)) (i j : ℕ) (p : WaitingPiece) → i < length places → place (slice_set places i (Some p)) j ≡ cond (nat_eq j i) (Some p) (place places j)
+set-place [] i j p below = absurd (omega arith)
+set-place (q ∷ places) zero zero p below = refl
+set-place (q ∷ places) zero (suc j) p below = let f : nat_eq (suc j) 0 ≡ false = grind (arith, nat_tests) in rw f refl
+set-place (q ∷ places) (suc i) zero p below = let f : nat_eq 0 (suc i) ≡ false = grind (arith, nat_tests) in rw f refl
+set-place (q ∷ places) (suc i) (suc j) p below =
+    let f : nat_eq (suc j) (suc i) ≡ nat_eq j i = grind (arith, nat_tests) in
+    let h : i < length places = omega arith in
+    rw f (set-place places i j p h)
+
+-- all places go where there are fewer
+pub drop-all : (places : List (Option WaitingPiece)) (count : ℕ) → drop (min count (length places)) places ≡ drop count places
+drop-all places count = elim (cases_lt count (length places)) [
+  | inl less ↦ let e : min count (length places) ≡ count = omega arith in rw e refl
+  | inr past ↦
+      let e : min count (length places) ≡ length places = omega arith in
+      let le : length places ≤ count = omega arith in
+      rw e (drop-length places ∙ sym (drop_of_length-le places {i = count} le))
+]
 
 pub same_bool : (a b : Bool) → not (beq a b) ≡ false → a ≡ b
 same_bool true true e = refl

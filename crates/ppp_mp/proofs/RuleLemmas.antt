@@ -6,15 +6,17 @@ use Rattle.std.proofs.lemmas.Bool.Decides.{nat_tests}
 use Rattle.ppp_mp.specs.Whole.{Piece, piece_at, joined, octets_of, Begun}
 use Rattle.ppp_mp.specs.Delivered.{Gathering, Rule, AtRest, ruled, loses, completes}
 use Rattle.ppp_mp.specs.Places.{place, turn_at, goes_on_there, Scanned, BegunThere, joined_there, octets_there}
-use Rattle.ppp_mp.specs.StandsFor.{KeepsNow, IsMoved, waiting, stopped, counted, long_space}
+use Rattle.ppp_mp.specs.StandsFor.{KeepsNow, IsMoved, waiting, stopped, counted}
+use Rattle.ppp_mp.specs.LongHeader.{long_space}
 use Rattle.ppp_mp.specs.declared.places.WaitingPiece.{WaitingPiece}
 use Rattle.ppp_mp.specs.declared.places.Turn.{Turn}
-use Rattle.ppp_mp.specs.declared.places.Turn.TheVariants.{Rests, Loses, Completes}
+use Rattle.ppp_mp.specs.declared.places.Turn.TheVariants.{Rests, Misses, Loses, Completes}
 use Rattle.ppp_mp.specs.declared.facts.GatherFacts.{GatherFacts}
 
 -- what a turn makes of a gathering
 abbrev pub turned : ℕ → Gathering → Turn → Option Gathering
 turned mrru s Rests = None
+turned mrru s (Misses count) = None
 turned mrru s (Loses count) = Some (loses s count)
 turned mrru s (Completes count) = Some (completes mrru s count)
 

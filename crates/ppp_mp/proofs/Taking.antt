@@ -6,15 +6,17 @@ use Rattle.std.specs.List.{fold}
 use Rattle.std.proofs.lemmas.Bool.{cases_lt}
 use Rattle.std.proofs.lemmas.Bool.Decides.{nat_tests}
 use Rattle.ppp_mp.specs.Whole.{Piece, piece_at, joined, Begun}
-use Rattle.ppp_mp.specs.Delivered.{Gathering, Keeps, IsMember, Rule, Rules, Settles, ruled, behind, goes_on, loses, completes, lesser, lowest, mark, brings, joins, leaves, keeps_piece}
+use Rattle.ppp_mp.specs.Delivered.{Gathering, AtRest, Keeps, IsMember, Rule, Rules, Settles, ruled, behind, goes_on, loses, completes, lesser, lowest, mark, brings, joins, leaves, keeps_piece}
 use Rattle.ppp_mp.specs.Places.{place}
-use Rattle.ppp_mp.specs.StandsFor.{KeepsNow, HasTaken, HasSettledNow, HasSettled, stopped, IsMoved, waiting, counted, overs_of, long_space}
+use Rattle.ppp_mp.specs.StandsFor.{KeepsNow, HasTaken, HasSettledNow, HasSettled, stopped, IsMoved, waiting, arrived, counted, overs_of}
+use Rattle.ppp_mp.specs.LongHeader.{long_space}
 use Rattle.ppp_mp.specs.declared.places.WaitingPiece.{WaitingPiece}
 use Rattle.ppp_mp.specs.declared.facts.GatherFacts.{GatherFacts}
 use Rattle.ppp_mp.specs.declared.counts.GatherCounts.{GatherCounts}
 use Rattle.ppp_mp.specs.declared.counts.PieceNow.TheVariants.{Kept, Old, Doubled}
 use Rattle.ppp_mp.proofs.RuleLemmas.{moves, stopped-more}
-use Rattle.ppp_mp.proofs.Settling.{lost-counts}
+use Rattle.ppp_mp.proofs.Rests.{some_same, mark_low}
+use Rattle.ppp_mp.proofs.SettlingLemmas.{lost-counts}
 
 lesser-less : (least : ℕ) (a b : Option ℕ) → lesser (option_map (λ n. n - least) a) (option_map (λ n. n - least) b) ≡ option_map (λ n. n - least) (lesser a b)
 lesser-less least None b = refl
@@ -102,9 +104,6 @@ past-one s len n p le there none = elim (cases_lt (s.least + len) n) [
       absurd (let e : None ≡ Some p = sym none ∙ here in cc)
 ]
 
-pub some_same : (s t : Gathering) → Some s ≡ Some t → s ≡ t
-some_same s t e = cc
-
 completes_goes : (n mrru : ℕ) (s : Gathering) (count : ℕ) → s.least + count ≤ n → Goes n s (completes mrru s count)
 completes_goes n mrru s count le = whole (nat_lt (mrru + 2) (length (joined s.kept s.least count)))
   where
@@ -155,10 +154,10 @@ abbrev pub over_now : GatherFacts → (at ahead : ℕ) → List (Option ℕ)
 over_now g at ahead = slice_set g.overs at (Some (max ahead (unwrap_or (slice_index_or g.overs at None) 0)))
 
 pub taken_old : (g g2 g3 : GatherFacts) (packets : List (List ℕ)) (s : Gathering) (at ahead field : ℕ) (p : WaitingPiece)
-    → KeepsNow g s → IsMember s (at + 1) → field < long_space → ahead < long_space → (g.base + ahead) % long_space ≡ field → 8388608 ≤ ahead
+    → KeepsNow g s → field < long_space → ahead < long_space → (g.base + ahead) % long_space ≡ field → 8388608 ≤ ahead
     → g2.mrru ≡ g.mrru → g2.base ≡ g.base → g2.places ≡ g.places → g2.overs ≡ over_now g at 0 → g2.counts ≡ record g.counts { old = stopped (g.counts.old + 1) }
-    → HasSettledNow g2 g3 [] packets → HasTaken g.mrru s (at + 1) field p Old g3 packets
-taken_old g g2 g3 packets s at ahead field p k member field_in ahead_in same half mrru base slots overs counts settled =
+    → HasSettledNow g2 g3 [] packets → HasTaken g.mrru s (at + 1) (arrived field p) Old g3 packets
+taken_old g g2 g3 packets s at ahead field p k field_in ahead_in same half mrru base slots overs counts settled =
     let n : ℕ = s.least + ahead - long_space in
     let raised : long_space ≤ s.least = k.raised in
     let s2 : Gathering = record (brings s (at + 1) (s.least + ahead - long_space)) { old = s.old + 1 } in
@@ -171,7 +170,6 @@ taken_old g g2 g3 packets s at ahead field p k member field_in ahead_in same hal
     let P = λ (m : ℕ). Settles m (mark s2) s2 r.0 in (
       r.0,
       record {
-        member = member;
         number = s.least + ahead - long_space;
         full = record { same = whole ∙ full_above s.least g.base ahead field k.base same ∙ sym small; above = omega arith; below = omega arith };
         answered = (omega arith, subst P mrru r.1);
@@ -189,10 +187,10 @@ none-is None e = refl
 none-is (Some p) e = absurd (cc)
 
 pub taken_doubled : (g g2 g3 : GatherFacts) (packets : List (List ℕ)) (s : Gathering) (at ahead field : ℕ) (p : WaitingPiece)
-    → KeepsNow g s → IsMember s (at + 1) → field < long_space → (g.base + ahead) % long_space ≡ field → ahead < 8388608 → is_some (place g.places ahead) ≡ true
+    → KeepsNow g s → field < long_space → (g.base + ahead) % long_space ≡ field → ahead < 8388608 → is_some (place g.places ahead) ≡ true
     → g2.mrru ≡ g.mrru → g2.base ≡ g.base → g2.places ≡ g.places → g2.overs ≡ over_now g at ahead → g2.counts ≡ record g.counts { doubled = stopped (g.counts.doubled + 1) }
-    → HasSettledNow g2 g3 [] packets → HasTaken g.mrru s (at + 1) field p Doubled g3 packets
-taken_doubled g g2 g3 packets s at ahead field p k member field_in same half there mrru base slots overs counts settled =
+    → HasSettledNow g2 g3 [] packets → HasTaken g.mrru s (at + 1) (arrived field p) Doubled g3 packets
+taken_doubled g g2 g3 packets s at ahead field p k field_in same half there mrru base slots overs counts settled =
     let s2 : Gathering = record (brings s (at + 1) (s.least + ahead)) { doubled = s.doubled + 1 } in
     let keeps2 : KeepsNow g2 s2 = keeps_with g g2 s s2 k base (λ i. ap (λ ps. place ps i) slots) refl refl
     (overs ∙ overs_brought s g.overs at (s.least + ahead) ahead k.overs (omega arith)) (doubled-counts g g2 s k.counts counts) in
@@ -202,7 +200,6 @@ taken_doubled g g2 g3 packets s at ahead field p k member field_in same half the
     let P = λ (m : ℕ). Settles m (mark s2) s2 r.0 in (
       r.0,
       record {
-        member = member;
         number = s.least + ahead;
         full = record { same = full_above s.least g.base ahead field k.base same ∙ sym small; above = omega arith; below = omega arith };
         answered = (omega arith, kept, subst P mrru r.1);
@@ -233,32 +230,24 @@ put_keeps g g' s n d p k is base slots overs counts = record {
   counts = counts ∙ k.counts;
 }
 
-bound-same : (least ahead m bound b : ℕ) → b ≡ m - least → bound ≡ min (max b (ahead - 127)) ahead → bound ≡ min (least + ahead) (max m (least + ahead - 127)) - least
+bound-same : (least ahead m bound b : ℕ) → b ≡ m - least → bound ≡ max b (ahead - 127) → bound ≡ max m (least + ahead - 127) - least
 bound-same least ahead m bound b is set = omega arith
 
-pub min-left : (a b : ℕ) → min a b ≤ a
-min-left a b = omega arith
-
-pub taken_kept : (g g2 g3 g4 g5 g6 : GatherFacts) (packets3 packets6 : List (List ℕ)) (s : Gathering) (at ahead field bound left far d : ℕ) (p : WaitingPiece)
-    → KeepsNow g s → IsMember s (at + 1) → field < long_space → (g.base + ahead) % long_space ≡ field → ahead < 8388608 → is_some (place g.places ahead) ≡ false
-    → g2.mrru ≡ g.mrru → g2.base ≡ g.base → g2.places ≡ g.places → g2.overs ≡ over_now g at ahead → g2.counts ≡ g.counts
-    → bound ≡ min (max (unwrap_or (lowest g2.overs) 0) (ahead - 127)) ahead → HasSettled bound g2 g3 [] packets3
+pub taken_kept : (g g3 g4 g5 g6 g7 : GatherFacts) (packets3 packets7 : List (List ℕ)) (s : Gathering) (at ahead field bound left far d : ℕ) (p : WaitingPiece)
+    → KeepsNow g s → AtRest g.mrru (mark s) s → field < long_space → (g.base + ahead) % long_space ≡ field → ahead < 8388608 → is_some (place g.places ahead) ≡ false
+    → bound ≡ max (unwrap_or (lowest g.overs) 0) (ahead - 127) → HasSettled bound g g3 [] packets3
     → left < long_space → (g3.base + left) % long_space ≡ field → far ≡ left - 127 → IsMoved g3 g4 far → g4.counts ≡ record g3.counts { lost = stopped (g3.counts.lost + far) }
-    → d ≡ left - far → g5.base ≡ g4.base → ((j : ℕ) → place g5.places j ≡ (cond (nat_eq j d) (Some p) (place g4.places j))) → g5.overs ≡ g4.overs → g5.counts ≡ g4.counts → g5.mrru ≡ g.mrru
-    → HasSettledNow g5 g6 packets3 packets6 → HasTaken g.mrru s (at + 1) field p Kept g6 packets6
-taken_kept g g2 g3 g4 g5 g6 packets3 packets6 s at ahead field bound left far d p k member field_in same half there mrru2 base2 slots2 overs2 counts2 bound_set settled3 left_in same3 far_set moved counts4 d_set base5 slots5 overs5 counts5 mrru5 settled6 =
-    let n : ℕ = s.least + ahead in
-    let s1 : Gathering = brings s (at + 1) (s.least + ahead) in
-    let below : ℕ = min (s.least + ahead) (max (mark s1) (s.least + ahead - 127)) in
-    let keeps1 : KeepsNow g2 s1 = keeps_with g g2 s s1 k base2 (λ i. ap (λ ps. place ps i) slots2) refl refl
-    (overs2 ∙ overs_brought s g.overs at (s.least + ahead) ahead k.overs (omega arith)) (counts2 ∙ k.counts) in
-    let marked : unwrap_or (lowest g2.overs) 0 ≡ mark s1 - s.least = ap (λ os. unwrap_or (lowest os) 0) keeps1.overs ∙ bound_is s1 in
-    let bound_now : bound ≡ min (s.least + ahead) (max (mark s1) (s.least + ahead - 127)) - s.least = bound-same s.least ahead (mark s1) bound (unwrap_or (lowest g2.overs) 0) marked bound_set in
-    let r3 = settled3 s.given s1 below (record { keeps = keeps1; given = sym (append-nil s.given) }) bound_now in
-    let mid : Gathering = r3.0 in
-    let keeps3 : KeepsNow g3 r3.0 = r3.2.keeps in
+    → d ≡ left - far → g5.base ≡ g4.base → ((j : ℕ) → place g5.places j ≡ (cond (nat_eq j d) (Some p) (place g4.places j))) → g5.overs ≡ g4.overs → g5.counts ≡ g4.counts
+    → g6.mrru ≡ g.mrru → g6.base ≡ g5.base → g6.places ≡ g5.places → g6.overs ≡ over_now g5 at d → g6.counts ≡ g5.counts
+    → HasSettledNow g6 g7 packets3 packets7 → HasTaken g.mrru s (at + 1) (arrived field p) Kept g7 packets7
+taken_kept g g3 g4 g5 g6 g7 packets3 packets7 s at ahead field bound left far d p k rest field_in same half there bound_set settled3 left_in same3 far_set moved counts4 d_set base5 places5 overs5 counts5 mrru6 base6 places6 overs6 counts6 settled7 =
     let none : piece_at (s.least + ahead) s.kept ≡ None = k.places ahead ∙ ap (option_map (waiting (s.least + ahead))) (none-is (place g.places ahead) there) in
-    let goes : Goes (s.least + ahead) s1 r3.0 = rules_go (s.least + ahead) g2.mrru below s1 r3.0 r3.1.count r3.1.rules (omega arith) (min-left (s.least + ahead) (max (mark s1) (s.least + ahead - 127))) none in
+    let low : mark s ≤ s.least + ahead = mark_low g.mrru s (s.least + ahead) rest (omega arith) none in
+    let bound_now : bound ≡ max (mark s) (s.least + ahead - 127) - s.least =
+    bound-same s.least ahead (mark s) bound (unwrap_or (lowest g.overs) 0) (ap (λ os. unwrap_or (lowest os) 0) k.overs ∙ bound_is s) bound_set in
+    let r3 = settled3 s.given s (max (mark s) (s.least + ahead - 127)) (record { keeps = k; given = sym (append-nil s.given) }) bound_now in
+    let keeps3 : KeepsNow g3 r3.0 = r3.2.keeps in
+    let goes : Goes (s.least + ahead) s r3.0 = rules_go (s.least + ahead) g.mrru (max (mark s) (s.least + ahead - 127)) s r3.0 r3.1.count r3.1.rules (omega arith) (omega arith) none in
     let le : r3.0.least ≤ s.least + ahead = goes.least in
     let up : s.least ≤ r3.0.least = goes.more in
     let number_is : r3.0.least + left ≡ s.least + ahead = mod_unique r3.0.least (r3.0.least + left) (s.least + ahead) (omega arith) le (omega arith) (omega arith)
@@ -266,32 +255,36 @@ taken_kept g g2 g3 g4 g5 g6 packets3 packets6 s at ahead field bound left far d 
     let far_is : far ≡ (s.least + ahead - 127) - r3.0.least = omega arith in
     let keeps4 : KeepsNow g4 (loses r3.0 far) = moves g3 g4 r3.0 (loses r3.0 far) far keeps3 moved refl refl refl (lost-counts g3 g4 r3.0 far keeps3.counts counts4) in
     let place_is : s.least + ahead ≡ (r3.0.least + far) + d = omega arith in
-    let keeps5 : KeepsNow g5 (keeps_piece (waiting (s.least + ahead) p) (loses r3.0 far)) = put_keeps g4 g5 (loses r3.0 far) (s.least + ahead) d p keeps4 place_is base5 slots5 overs5 counts5 in
-    let r6 = settled6 s.given (keeps_piece (waiting (s.least + ahead) p) (loses r3.0 far)) (record { keeps = keeps5; given = r3.2.given }) in
-    let P3 = λ (m : ℕ). Settles m (min (s.least + ahead) (max (mark s1) (s.least + ahead - 127))) s1 r3.0 in
-    let P6 = λ (m : ℕ). Settles m (mark (keeps_piece (waiting (s.least + ahead) p) (loses r3.0 far))) (keeps_piece (waiting (s.least + ahead) p) (loses r3.0 far)) r6.0 in
-    let Q6 = λ (c : ℕ). Settles g.mrru (mark (keeps_piece (waiting (s.least + ahead) p) (loses r3.0 c))) (keeps_piece (waiting (s.least + ahead) p) (loses r3.0 c)) r6.0 in
+    let s5 : Gathering = keeps_piece (waiting (s.least + ahead) p) (loses r3.0 far) in
+    let keeps5 : KeepsNow g5 (keeps_piece (waiting (s.least + ahead) p) (loses r3.0 far)) = put_keeps g4 g5 (loses r3.0 far) (s.least + ahead) d p keeps4 place_is base5 places5 overs5 counts5 in
+    let d_is : d ≡ (s.least + ahead) - (r3.0.least + far) = omega arith in
+    let keeps6 : KeepsNow g6 (brings (keeps_piece (waiting (s.least + ahead) p) (loses r3.0 far)) (at + 1) (s.least + ahead)) =
+    keeps_with g5 g6 s5 (brings s5 (at + 1) (s.least + ahead)) keeps5 base6 (λ i. ap (λ ps. place ps i) places6) refl refl
+    (overs6 ∙ overs_brought s5 g5.overs at (s.least + ahead) d keeps5.overs d_is) (counts6 ∙ keeps5.counts) in
+    let r7 = settled7 s.given (brings (keeps_piece (waiting (s.least + ahead) p) (loses r3.0 far)) (at + 1) (s.least + ahead)) (record { keeps = keeps6; given = r3.2.given }) in
+    let P7 = λ (m : ℕ). Settles m (mark (brings s5 (at + 1) (s.least + ahead))) (brings s5 (at + 1) (s.least + ahead)) r7.0 in
+    let Q7 = λ (c : ℕ).
+        (let now : Gathering = brings (keeps_piece (waiting (s.least + ahead) p) (loses r3.0 c)) (at + 1) (s.least + ahead) in Settles g.mrru (mark now) now r7.0) in
     let small : field % long_space ≡ field = omega arith in
-    let keeping : Keeps g.mrru s1 (waiting (s.least + ahead) p) r6.0 = record { mid = r3.0; before = subst P3 mrru2 r3.1; after = subst Q6 far_is (subst P6 mrru5 r6.1) } in (
-      r6.0,
+    let keeping : Keeps g.mrru s (at + 1) (waiting (s.least + ahead) p) r7.0 = record { mid = r3.0; before = r3.1; after = subst Q7 far_is (subst P7 mrru6 r7.1) } in (
+      r7.0,
       record {
-        member = member;
         number = s.least + ahead;
         full = record { same = full_above s.least g.base ahead field k.base same ∙ sym small; above = omega arith; below = omega arith };
         answered = (omega arith, none, keeping);
       },
-      r6.2.keeps,
-      r6.2.given,
+      r7.2.keeps,
+      r7.2.given,
     )
 
 pub some-same : {X : Type 0} (f : X → WaitingPiece) (o : Option X) (q : Option WaitingPiece) → option_map f o ≡ q → is_some q ≡ is_some o
 some-same f None q e = rw (← e) refl
 some-same f (Some x) q e = rw (← e) refl
 
-abbrev pub counting_old : GatherFacts → Gather
+abbrev pub counting_old : GatherFacts → GatherFacts
 counting_old g = record g { counts = record g.counts { old = stopped (g.counts.old + 1) } }
 
-abbrev pub counting_doubled : GatherFacts → Gather
+abbrev pub counting_doubled : GatherFacts → GatherFacts
 counting_doubled g = record g { counts = record g.counts { doubled = stopped (g.counts.doubled + 1) } }
 
 is-some-less : (least : ℕ) (o : Option ℕ) → is_some (option_map (λ n. n - least) o) ≡ is_some o
@@ -321,10 +314,6 @@ leaves_keeps g g' s link k is =
     let f = λ (o : Option ℕ). option_map (λ n. n - s.least) o in
     let overs : g'.overs ≡ overs_of (leaves s link) = ap (λ (x : GatherFacts). x.overs) is ∙ ap (λ os. slice_set os (link - 1) None) k.overs ∙ sym (map-set f s.brought (link - 1) None) in
     keeps_with g g' s (leaves s link) k (ap (λ (x : GatherFacts). x.base) is) (λ i. ap (λ (x : GatherFacts). place x.places i) is) refl refl overs (ap (λ (x : GatherFacts). x.counts) is ∙ k.counts)
-
-pub not-true : (b : Bool) → not b ≡ true → b ≡ false
-not-true true e = absurd (cc)
-not-true false e = refl
 
 pub is-member : (o : Option ℕ) → is_some o ≡ true → IsSome o
 is-member None e = absurd (cc)

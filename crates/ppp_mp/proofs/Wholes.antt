@@ -3,10 +3,10 @@ use Rattle.std.proofs.Common.{◌≡◌, ℕ, ◌+◌, ◌-◌, ◌≤◌, ◌==
 use Rattle.std.specs.List.{AllByRecursion}
 use Rattle.std.proofs.lemmas.Bool.Decides.{nat_tests}
 use Rattle.ppp_mp.specs.Whole.{Piece, piece_at, joined, octets_of, Begun, Whole}
-use Rattle.ppp_mp.specs.Delivered.{Gathering, Entry, Joins, Leaves, Comes, Delivered, Takes, Left, Keeps, Answered, Rule, Rules, Settles, ruled, behind, goes_on, loses, completes, leaves, brings, keeps_piece, mark}
+use Rattle.ppp_mp.specs.Delivered.{Gathering, Entry, Joins, Leaves, Comes, Delivered, Takes, Left, Keeps, Answered, numbered, Rule, Rules, Settles, ruled, behind, goes_on, loses, completes, leaves, brings, keeps_piece, mark}
 use Rattle.ppp_mp.specs.declared.counts.PieceNow.{PieceNow}
 use Rattle.ppp_mp.specs.declared.counts.PieceNow.TheVariants.{Kept, Old, Doubled, Stranger, BadHeader}
-use Rattle.ppp_mp.proofs.Taking.{not-true, some_same, rules_go, min-left, Goes}
+use Rattle.ppp_mp.proofs.Rests.{Stays, rules_stay, some_same, goes_first, member_cases}
 
 -- Each packet that was given is whole.
 abbrev pub AllWhole : Gathering → Type 0
@@ -19,13 +19,6 @@ all-snoc P (y ∷ ys) x all here = (all.0, all-snoc P ys x all.1 here)
 all-map : (P Q : List ℕ → Type 0) (xs : List (List ℕ)) → ((x : List ℕ) → P x → Q x) → AllByRecursion P xs → AllByRecursion Q xs
 all-map P Q [] f all = tt
 all-map P Q (x ∷ xs) f all = (f x all.0, all-map P Q xs f all.1)
-
-goes_first : (p : Piece) (len : ℕ) → goes_on p len ≡ true → p.first ≡ (len == 0)
-goes_first p zero e = e
-goes_first p (suc len) e =
-    let z : (suc len == 0) ≡ false = grind (arith, nat_tests) in
-    let f : not p.first ≡ true = rw z at e in
-    rw z (not-true p.first f)
 
 completes_whole : (mrru : ℕ) (s : Gathering) (len : ℕ) (p : Piece) → Begun s.kept s.least len → behind s len ≡ Some p → goes_on p len ≡ true → p.last ≡ true → AllWhole s → AllWhole (completes mrru s (len + 1))
 completes_whole mrru s len p begun there goes last all = by_length (nat_lt (mrru + 2) (length (joined s.kept s.least (len + 1))))
@@ -103,33 +96,26 @@ whole_grown kept p packet none w = record {
       ∙ ap (λ l. joined (p ∷ kept) w.from w.others ++ l) (ap octets_of (w.ends ∙ sym (grown kept p w.end (w.from + w.others) none w.ends)));
 }
 
-kept_whole : (mrru : ℕ) (s new : Gathering) (p : Piece) → s.least ≤ p.number → piece_at p.number s.kept ≡ None → Keeps mrru s p new → AllWhole s → AllWhole new
-kept_whole mrru s new p le none keeps all =
-    let below : ℕ = min p.number (max (mark s) (p.number - 127)) in
-    let goes : Goes p.number s keeps.mid = rules_go p.number mrru below s keeps.mid keeps.before.count keeps.before.rules le (min-left p.number (max (mark s) (p.number - 127))) none in
-    let before : AllWhole keeps.mid = settles_whole mrru below s keeps.mid keeps.before all in
-    let gone : piece_at p.number keeps.mid.kept ≡ None = ap (piece_at p.number) goes.kept ∙ none in
-    let now : Gathering = keeps_piece p (loses keeps.mid (p.number - 127 - keeps.mid.least)) in
+kept_whole : (mrru : ℕ) (s new : Gathering) (link : ℕ) (p : Piece) → piece_at p.number s.kept ≡ None → Keeps mrru s link p new → AllWhole s → AllWhole new
+kept_whole mrru s new link p none keeps all =
+    let bound : ℕ = max (mark s) (p.number - 127) in
+    let stays : Stays s keeps.mid = rules_stay mrru (max (mark s) (p.number - 127)) s keeps.mid keeps.before.count keeps.before.rules in
+    let before : AllWhole keeps.mid = settles_whole mrru (max (mark s) (p.number - 127)) s keeps.mid keeps.before all in
+    let gone : piece_at p.number keeps.mid.kept ≡ None = ap (piece_at p.number) stays.kept ∙ none in
+    let now : Gathering = brings (keeps_piece p (loses keeps.mid (p.number - 127 - keeps.mid.least))) link p.number in
     let with_it : AllWhole now = all-map (Whole keeps.mid.kept) (Whole (p ∷ keeps.mid.kept)) keeps.mid.given (λ x w. whole_grown keeps.mid.kept p x gone w) before in
     settles_whole mrru (mark now) now new keeps.after with_it
 
-answered_whole : (mrru : ℕ) (s new : Gathering) (p : Piece) (answer : PieceNow) → Answered mrru s p answer new → AllWhole s → AllWhole new
-answered_whole mrru s new p Old a all = settles_whole mrru (mark s) (record s { old = s.old + 1 }) new a.1 all
-answered_whole mrru s new p Doubled a all = settles_whole mrru (mark s) (record s { doubled = s.doubled + 1 }) new a.2 all
-answered_whole mrru s new p Kept a all = kept_whole mrru s new p a.0 a.1 a.2 all
-answered_whole mrru s new p Stranger a all = elim a [ ]
-answered_whole mrru s new p BadHeader a all = elim a [ ]
+answered_whole : (mrru : ℕ) (s new : Gathering) (link : ℕ) (p : Piece) (answer : PieceNow) → Answered mrru s link p answer new → AllWhole s → AllWhole new
+answered_whole mrru s new link p Old a all = let now : Gathering = record (brings s link p.number) { old = s.old + 1 } in settles_whole mrru (mark now) now new a.1 all
+answered_whole mrru s new link p Doubled a all = let now : Gathering = record (brings s link p.number) { doubled = s.doubled + 1 } in settles_whole mrru (mark now) now new a.2 all
+answered_whole mrru s new link p Kept a all = kept_whole mrru s new link p a.1 a.2 all
+answered_whole mrru s new link p Stranger a all = elim a [ ]
+answered_whole mrru s new link p BadHeader a all = elim a [ ]
 
 joins_whole : (s : Gathering) (link : ℕ) (b : Bool) → AllWhole s → AllWhole (cond b s (record s { brought = slice_set s.brought (link - 1) (Some (s.least - 1)) }))
 joins_whole s link true all = all
 joins_whole s link false all = all
-
-not-none : false ≡ true → ⊥
-not-none e = cc
-
-member_cases : (o : Option ℕ) → IsSome o ⊎ ¬ (IsSome o)
-member_cases None = inr (λ h. not-none h)
-member_cases (Some n) = inl refl
 
 left_whole : (mrru : ℕ) (s new : Gathering) (link : ℕ) → Left mrru s link new → AllWhole s → AllWhole new
 left_whole mrru s new link left all = elim (member_cases (slice_index_or s.brought (link - 1) None)) [
@@ -137,13 +123,18 @@ left_whole mrru s new link left all = elim (member_cases (slice_index_or s.broug
   | inr out ↦ subst (λ (x : Gathering). AllWhole x) (sym (left.stranger out)) all
 ]
 
-pub delivered_whole : (long_space mrru : ℕ) (past : List Entry) (s : Gathering) → Delivered long_space mrru past s → AllWhole s
-delivered_whole long_space mrru [] s d = subst (λ (x : Gathering). AllWhole x) (sym d) tt
-delivered_whole long_space mrru (Joins link ∷ past) s d =
-    let all : AllWhole d.0 = delivered_whole long_space mrru past d.0 d.1 in
+pub delivered_whole : (space mrru : ℕ) (past : List Entry) (s : Gathering) → Delivered space mrru past s → AllWhole s
+delivered_whole space mrru [] s d = subst (λ (x : Gathering). AllWhole x) (sym d) tt
+delivered_whole space mrru (Joins link ∷ past) s d =
+    let all : AllWhole d.0 = delivered_whole space mrru past d.0 d.1 in
     subst (λ (x : Gathering). AllWhole x) (sym d.2) (joins_whole d.0 link (is_some (slice_index_or d.0.brought (link - 1) None)) all)
-delivered_whole long_space mrru (Leaves link ∷ past) s d = left_whole mrru d.0 s link d.2 (delivered_whole long_space mrru past d.0 d.1)
-delivered_whole long_space mrru (Comes link field first last octets ∷ past) s d =
-    let all : AllWhole d.0 = delivered_whole long_space mrru past d.0 d.1 in
-    let takes : Takes long_space mrru d.0 link field first last octets d.2 s = d.3 in
-    answered_whole mrru (brings d.0 link takes.number) s (record { number = takes.number; first = first; last = last; octets = octets }) d.2 takes.answered all
+delivered_whole space mrru (Leaves link ∷ past) s d = left_whole mrru d.0 s link d.2 (delivered_whole space mrru past d.0 d.1)
+delivered_whole space mrru (Comes link fragment ∷ past) s d =
+    let all : AllWhole d.0 = delivered_whole space mrru past d.0 d.1 in
+    let takes : Takes space mrru d.0 link fragment d.2 s = d.3 in
+    elim (member_cases (slice_index_or d.0.brought (link - 1) None)) [
+      | inl member ↦
+          let of = takes.member member in
+          answered_whole mrru d.0 s link (numbered of.number fragment) d.2 of.answered all
+      | inr out ↦ subst (λ (x : Gathering). AllWhole x) (sym (takes.stranger out).1) all
+    ]

@@ -1,6 +1,6 @@
 use Rattle.std.proofs.Common.{◌+◌}
 use Rattle.ppp_mp.specs.Places.{tally, waits}
-use Rattle.ppp_mp.proofs.Settling.{Settling}
+use Rattle.ppp_mp.proofs.SettlingLemmas.{Settling}
 use Rattle.ppp_mp.proofs.facts.GatherFacts.settle.Given as goal
 
 abbrev pub invariant-rules : goal.invariant-rules

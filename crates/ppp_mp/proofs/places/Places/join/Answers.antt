@@ -1,7 +1,7 @@
 use Rattle.std.proofs.Common.{◌≡◌, ◌<◌, ◌-◌, arith, length, sym, ap, ◌∙◌, refl, nat_lt, true}
 use Rattle.ppp_mp.specs.Places.{joined_there}
 use Rattle.ppp_mp.proofs.PlaceLemmas.{too-long}
-use Rattle.ppp_mp.proofs.places.Slots.join.Goals as goal
+use Rattle.ppp_mp.proofs.places.Places.join.Goals as goal
 
 pub returns-then-limit-len : goal.returns-then-limit-len
 returns-then-limit-len c =

@@ -1,6 +1,6 @@
 use Rattle.std.proofs.Common.{◌≡◌, ◌==◌, Some, false, sym}
 use Rattle.ppp_mp.specs.Places.{place, IsThere}
-use Rattle.ppp_mp.proofs.places.Slots.scan.Goals as goal
+use Rattle.ppp_mp.proofs.places.Places.scan.Goals as goal
 use Rattle.ppp_mp.proofs.PlaceLemmas.{same_bool}
 use borrow.Author.Count.{below_more}
 

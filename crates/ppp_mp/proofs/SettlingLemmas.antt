@@ -1,14 +1,14 @@
 -- The loop that applies the rules.
-use Rattle.std.proofs.Common.{nat_eq, ◌≡◌, ℕ, ◌+◌, ◌-◌, ◌<◌, ◌≤◌, ◌++◌, suc, max, nat_lt, cond, Bool, true, false, List, [], ◌∷◌, length, Option, None, Some, refl, sym, ap, subst, ◌∙◌, arith, ◌⊎◌, inl, inr, append_assoc, length-append}
+use Rattle.std.proofs.Common.{nat_eq, ◌≡◌, ℕ, ◌+◌, ◌-◌, ◌<◌, ◌≤◌, ◌++◌, suc, max, nat_lt, cond, Bool, true, false, List, [], ◌∷◌, length, zero, option_map, Option, None, Some, refl, sym, ap, subst, ◌∙◌, arith, ◌⊎◌, inl, inr, append_assoc, length-append}
 use Rattle.std.proofs.lemmas.Bool.{cases_lt}
 use Rattle.std.proofs.lemmas.Bool.Decides.{nat_tests}
-use Rattle.ppp_mp.specs.Whole.{joined}
-use Rattle.ppp_mp.specs.Delivered.{Gathering, Rule, Rules, AtRest, loses, completes}
-use Rattle.ppp_mp.specs.Places.{place, Scanned, joined_there, tally, waits, ends, turn_at, goes_on_there}
-use Rattle.ppp_mp.specs.StandsFor.{KeepsNow, IsMoved, HasCompleted, HasSettled, Holds, stopped, counted}
+use Rattle.ppp_mp.specs.Whole.{joined, piece_at}
+use Rattle.ppp_mp.specs.Delivered.{Gathering, Rule, Rules, AtRest, loses, completes, ruled}
+use Rattle.ppp_mp.specs.Places.{place, AreMissing, Scanned, joined_there, tally, waits, ends, turn_at, goes_on_there}
+use Rattle.ppp_mp.specs.StandsFor.{waiting, KeepsNow, IsMoved, HasCompleted, HasSettled, Holds, stopped, counted}
 use Rattle.ppp_mp.specs.declared.places.WaitingPiece.{WaitingPiece}
 use Rattle.ppp_mp.specs.declared.places.Turn.{Turn}
-use Rattle.ppp_mp.specs.declared.places.Turn.TheVariants.{Rests, Loses, Completes}
+use Rattle.ppp_mp.specs.declared.places.Turn.TheVariants.{Rests, Misses, Loses, Completes}
 use Rattle.ppp_mp.specs.declared.facts.GatherFacts.{GatherFacts}
 use Rattle.ppp_mp.specs.declared.counts.GatherCounts.{GatherCounts}
 use Rattle.ppp_mp.proofs.RuleLemmas.{scanned_rule, scanned_rests, joined-same, moves, stopped-more}
@@ -55,6 +55,68 @@ settling_loses first packets0 bound0 g packets bound g' count bound' so_far scan
         omega arith,
       );
 }
+
+-- A missing stretch is lost number by number.
+misses_one : (mrru below : ℕ) (mid : Gathering) (k : ℕ) → piece_at (mid.least + k) mid.kept ≡ None → mid.least + k < below → Rule mrru below (loses mid k) (loses mid (suc k))
+misses_one mrru below mid k none less =
+    let at : mid.least + k + 0 ≡ mid.least + k = omega arith in
+    let least : mid.least + k + 1 ≡ mid.least + suc k = omega arith in
+    let lost : mid.lost + k + 1 ≡ mid.lost + suc k = omega arith in
+    let there : piece_at (mid.least + k + 0) mid.kept ≡ None = ap (λ n. piece_at n mid.kept) at ∙ none in
+    let test : nat_lt (mid.least + k + 0) below ≡ true = grind (arith, nat_tests) in
+    let set = λ (a b : ℕ). (let r : Gathering = record mid { least = a; lost = b } in r) in
+    let same : loses (loses mid k) (0 + 1) ≡ loses mid (suc k) = ap (λ a. set a (mid.lost + k + 1)) least ∙ ap (λ b. set (mid.least + suc k) b) lost in
+    let made : ruled mrru below (loses mid k) 0 None ≡ Some (loses (loses mid k) (0 + 1)) = rw test refl in
+    record { len = 0; begun = λ i less. absurd (omega arith); applies = ap (ruled mrru below (loses mid k) 0) there ∙ made ∙ ap Some same }
+
+loses_none : (mid : Gathering) → loses mid 0 ≡ mid
+loses_none mid =
+    let set = λ (a b : ℕ). (let r : Gathering = record mid { least = a; lost = b } in r) in
+    let least : mid.least + 0 ≡ mid.least = omega arith in
+    let lost : mid.lost + 0 ≡ mid.lost = omega arith in
+    ap (λ a. set a (mid.lost + 0)) least ∙ ap (λ b. set mid.least b) lost
+
+misses_rules : (mrru below : ℕ) (s mid : Gathering) (before k : ℕ) → Rules mrru below s before mid → ((i : ℕ) → i < k → piece_at (mid.least + i) mid.kept ≡ None) → mid.least + k ≤ below
+    → (count : ℕ) × Rules mrru below s count (loses mid k)
+misses_rules mrru below s mid before zero rules none le = (before, subst (λ (x : Gathering). Rules mrru below s before x) (sym (loses_none mid)) rules)
+misses_rules mrru below s mid before (suc k) rules none le =
+    let t = misses_rules mrru below s mid before k rules (λ i less. none i (omega arith)) (omega arith) in
+    (suc t.0, (loses mid k, t.1, misses_one mrru below mid k (none k (omega arith)) (omega arith)))
+
+pub settling_misses : (first : GatherFacts) (packets0 : List (List ℕ)) (bound0 : ℕ) (g : GatherFacts) (packets : List (List ℕ)) (bound : ℕ) (g' : GatherFacts) (count bound' : ℕ)
+    → Settling first packets0 bound0 g packets bound → AreMissing g.places bound count → ((i : ℕ) → 128 ≤ i → place g.places i ≡ None) → IsMoved g g' count
+    → g'.counts ≡ record g.counts { lost = stopped (g.counts.lost + count) } → bound' ≡ bound - count
+    → Settling first packets0 bound0 g' packets bound'
+settling_misses first packets0 bound0 g packets bound g' count bound' so_far missing past moved counts less = record {
+  mrru = moved.mrru ∙ so_far.mrru;
+  room = let left = tally-left ends g.places g'.places count refl moved.places past in omega (arith, so_far.room);
+  goes = λ before s below holds is.
+      let t = so_far.goes before s below holds is in
+      let mid : Gathering = t.1 in
+      let bound_is : bound ≡ below - mid.least = t.4 in
+      let keeps : KeepsNow g mid = t.3.keeps in
+      let given : mid.given ≡ before ++ packets = t.3.given in
+      let some : 0 < count = missing.some in
+      let most : count ≤ bound = missing.below in
+      let rules = misses_rules first.mrru below s mid t.0 count t.2 (λ i below. keeps.places i ∙ ap (option_map (waiting (mid.least + i))) (missing.none i below)) (omega arith) in (
+        rules.0,
+        loses mid count,
+        rules.1,
+        record {
+          keeps = moves g g' mid (loses mid count) count keeps moved refl refl refl (lost-counts g g' mid count keeps.counts counts);
+          given = given;
+        },
+        omega arith,
+      );
+}
+
+pub misses-fall : (g g' : GatherFacts) (bound bound' count : ℕ) → AreMissing g.places bound count → ((i : ℕ) → 128 ≤ i → place g.places i ≡ None) → IsMoved g g' count → bound' ≡ bound - count
+    → bound' + tally waits g'.places 128 < bound + tally waits g.places 128
+misses-fall g g' bound bound' count missing past moved less =
+    let left = tally-left waits g.places g'.places count refl moved.places past in
+    let some : 0 < count = missing.some in
+    let most : count ≤ bound = missing.below in
+    omega arith
 
 long-is : (mrru : ℕ) (s : Gathering) (count : ℕ) → mrru + 2 < length (joined s.kept s.least count) → completes mrru s count ≡ record s { least = s.least + count; too_long = s.too_long + 1 }
 long-is mrru s count long = let e : nat_lt (mrru + 2) (length (joined s.kept s.least count)) ≡ true = grind (arith, nat_tests) in rw e refl
