@@ -54,7 +54,7 @@ stranger_came g g1 packets past s link fragment same out none stands =
 
 pub piece_stands : (g g1 g' : GatherFacts) (packets : List (List ℕ)) (past : List Entry) (s : Gathering) (link at : ℕ) (fragment fragment' : Fragment) (answer : PieceNow) → g1 ≡ g → at + 1 ≡ link → is_some (slice_index_or g1.overs at None) ≡ true
     → fragment ≡ fragment' → g'.mrru ≡ g1.mrru
-    → ((s : Gathering) → KeepsNow g1 s → AtRest g1.mrru (mark s) s → IsMember s (at + 1) → HasTaken g1.mrru s (at + 1) fragment' answer g' packets)
+    → ((s : Gathering) → KeepsNow g1 s → AtRest g1.mrru (mark s) s → HasTaken g1.mrru s (at + 1) fragment' answer g' packets)
     → StandsFor g past s → AddsPiece g' past s link fragment answer packets
 piece_stands g g1 g' packets past s link at fragment fragment' answer same link_is in_it fragment_is mrru taken stands =
     let now : StandsFor g1 past s = subst (λ (x : GatherFacts). StandsFor x past s) (sym same) stands in
@@ -62,7 +62,7 @@ piece_stands g g1 g' packets past s link at fragment fragment' answer same link_
     let member : IsSome (slice_index_or s.brought at None) = is-member (slice_index_or s.brought at None) (sym (member-is g1 s at now.keeps) ∙ in_it) in
     let at_is : at ≡ at + 1 - 1 = omega arith in
     let member_now : IsMember s (at + 1) = subst (λ (i : ℕ). IsSome (slice_index_or s.brought i None)) at_is member in
-    let r = taken s now.keeps rest member_now in
+    let r = taken s now.keeps rest in
     let P = λ (l : ℕ) (f : Fragment) (m : ℕ). Takes long_space m s l f answer r.0 in
     let takes : Takes long_space g1.mrru s (at + 1) fragment' answer r.0 = record { member = λ _. r.1; stranger = λ out. absurd (out member_now) } in
     let takes_link : Takes long_space g1.mrru s link fragment' answer r.0 = subst (λ (l : ℕ). Takes long_space g1.mrru s l fragment' answer r.0) link_is takes in

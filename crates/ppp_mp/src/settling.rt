@@ -1,5 +1,5 @@
 ghost use Rattle.std.specs.Prelude.{◌≡◌, ◌≢◌, ℕ, ◌+◌, ◌-◌, ◌%◌, ◌^◌, ◌<◌, ◌≤◌, List, [], ◌∷◌, ◌++◌, length, min, map, option_map, None, Some, unwrap_or, false, max, slice_set, slice_index_or, ◌==◌, if◌then◌else◌, is_some};
-ghost use Rattle.ppp_mp.specs.Delivered.{lowest, lesser, Gathering, IsMember, AtRest, mark};
+ghost use Rattle.ppp_mp.specs.Delivered.{lowest, lesser, Gathering, AtRest, mark};
 ghost use Rattle.ppp_mp.specs.Places.{place, tally, ends};
 ghost use Rattle.ppp_mp.specs.StandsFor.{IsMoved, HasSettled, HasSettledNow, HasCompleted, HasTaken, HasLeft, KeepsNow, arrived};
 
@@ -28,7 +28,7 @@ impl GatherFacts {
         ensures mrru { self.new.mrru ≡ self.old.mrru }
         ensures rest { ends (place self.new.places 0) ≡ false }
         ensures other { (result ≢ PieceNow.Stranger) × (result ≢ PieceNow.BadHeader) }
-        ensures takes { (s : Gathering) → KeepsNow self.old s → AtRest self.old.mrru (mark s) s → IsMember s (at + 1)
+        ensures takes { (s : Gathering) → KeepsNow self.old s → AtRest self.old.mrru (mark s) s
             → HasTaken self.old.mrru s (at + 1) (arrived field piece) result self.new given.new }
     {
         let ahead = ahead_of(self.base, field);

@@ -26,7 +26,7 @@ settle_now-requires-2 c =
     c.requires.empty refl c.requires.rest c.settle.ensures.room c.settle.ensures.past c.lose.ensures.moved.places (λ j. ap (λ ps. place ps j) same ∙ c.keep.ensures.places j)
 
 pub returns-then-ahead-ge-HALF-clause-takes : goal.returns-then-ahead-ge-HALF-clause-takes
-returns-then-ahead-ge-HALF-clause-takes c = λ s k rest member.
+returns-then-ahead-ge-HALF-clause-takes c = λ s k rest.
     let g2 : GatherFacts = c.count_old.new.self in
     let all : c.count_old.new.self ≡ record c.args.self.now { overs = over_now c.args.self.now c.args.at 0; counts = record c.args.self.now.counts { old = stopped (c.args.self.now.counts.old + 1) } } =
     c.count_old.ensures ∙ ap counting_old c.bring.ensures in
@@ -38,7 +38,7 @@ returns-then-ahead-ge-HALF-clause-takes c = λ s k rest member.
     settled
 
 pub returns-then-is_some-clause-takes : goal.returns-then-is_some-clause-takes
-returns-then-is_some-clause-takes c = λ s k rest member.
+returns-then-is_some-clause-takes c = λ s k rest.
     let g2 : GatherFacts = c.count_doubled.new.self in
     let all : c.count_doubled.new.self ≡ record c.args.self.now { overs = over_now c.args.self.now c.args.at c.ahead_of-ahead.result; counts = record c.args.self.now.counts { doubled = stopped (c.args.self.now.counts.doubled + 1) } } =
     c.count_doubled.ensures ∙ ap counting_doubled c.bring-then-is_some.ensures in
@@ -52,7 +52,7 @@ returns-then-is_some-clause-takes c = λ s k rest member.
     settled
 
 pub returns-clause-takes : goal.returns-clause-takes
-returns-clause-takes c = λ s k rest member.
+returns-clause-takes c = λ s k rest.
     let g6 : GatherFacts = c.bring-2.new.self in
     let P = λ (l : List (List ℕ)). HasSettled c.max-bound.result c.args.self.now c.settle.new.self l c.settle.new.given in
     let settled : HasSettled c.max-bound.result c.args.self.now c.settle.new.self [] c.settle.new.given = subst P c.requires.empty c.settle.ensures.settled in
