@@ -6,5 +6,7 @@ pub mod RuleLemmas
 pub mod SettlingLemmas
 pub mod Taking
 pub mod Calls
+pub mod Numbers
+pub mod Histories
 pub mod Wholes
 pub mod Once

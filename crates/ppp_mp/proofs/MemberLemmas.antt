@@ -1,5 +1,5 @@
 -- Members in link order.
-use Rattle.std.proofs.Common.{◌≡◌, ℕ, ◌+◌, ◌<◌, ◌≤◌, List, [], ◌∷◌, ◌++◌, length, arith}
+use Rattle.std.proofs.Common.{ℕ, ◌+◌, ◌<◌, ◌≤◌, List, [], ◌∷◌, ◌++◌, length, arith}
 use Rattle.ppp_mp.specs.declared.members.MemberView.{MemberView}
 use Rattle.ppp_mp.specs.Members.{AreMembers, last_link}
 

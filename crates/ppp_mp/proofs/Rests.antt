@@ -4,7 +4,7 @@ use Rattle.std.specs.List.{fold}
 use Rattle.std.proofs.lemmas.Bool.{cases_lt}
 use Rattle.std.proofs.lemmas.Bool.Decides.{nat_tests}
 use Rattle.ppp_mp.specs.Whole.{Piece, piece_at, joined, Begun, IsInside}
-use Rattle.ppp_mp.specs.Delivered.{Gathering, Entry, Fragment, Joins, Leaves, Comes, Delivered, Takes, TakesOf, Left, Keeps, Answered, Rule, Rules, Settles, AtRest, ruled, behind, goes_on, loses, completes, lesser, lowest, mark, brings, joins, leaves, keeps_piece, nothing, numbered}
+use Rattle.ppp_mp.specs.Delivered.{Gathering, Entry, Joins, Leaves, Comes, Delivered, Takes, Left, Keeps, Answered, Rule, Rules, Settles, AtRest, ruled, behind, goes_on, loses, completes, lesser, lowest, mark, brings, leaves, keeps_piece, nothing, numbered}
 use Rattle.ppp_mp.specs.declared.counts.PieceNow.{PieceNow}
 use Rattle.ppp_mp.specs.declared.counts.PieceNow.TheVariants.{Kept, Old, Doubled, Stranger, BadHeader}
 

@@ -8,7 +8,7 @@ use Rattle.ppp_mp.specs.Places.{place, AreMissing, Scanned, joined_there, tally,
 use Rattle.ppp_mp.specs.StandsFor.{waiting, KeepsNow, IsMoved, HasCompleted, HasSettled, Holds, stopped, counted}
 use Rattle.ppp_mp.specs.declared.places.WaitingPiece.{WaitingPiece}
 use Rattle.ppp_mp.specs.declared.places.Turn.{Turn}
-use Rattle.ppp_mp.specs.declared.places.Turn.TheVariants.{Rests, Misses, Loses, Completes}
+use Rattle.ppp_mp.specs.declared.places.Turn.TheVariants.{Rests, Loses, Completes}
 use Rattle.ppp_mp.specs.declared.facts.GatherFacts.{GatherFacts}
 use Rattle.ppp_mp.specs.declared.counts.GatherCounts.{GatherCounts}
 use Rattle.ppp_mp.proofs.RuleLemmas.{scanned_rule, scanned_rests, joined-same, moves, stopped-more}

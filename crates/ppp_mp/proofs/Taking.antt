@@ -1,12 +1,12 @@
 -- A piece is taken.
-use Rattle.std.proofs.Common.{◌≡◌, ◌≢◌, ℕ, ◌+◌, ◌-◌, ◌%◌, ◌<◌, ◌≤◌, ◌++◌, zero, suc, max, min, nat_lt, nat_eq, cond, append-nil, is_some, not, IsSome, rules, Bool, true, false, List, [], ◌∷◌, length, map, Option, None, Some, option_map, unwrap_or, slice_set, slice_index_or, refl, sym, ap, subst, ◌∙◌, arith, inl, inr}
+use Rattle.std.proofs.Common.{◌≡◌, ◌≢◌, ℕ, ◌+◌, ◌-◌, ◌%◌, ◌<◌, ◌≤◌, ◌++◌, zero, suc, max, min, nat_lt, nat_eq, cond, append-nil, is_some, IsSome, rules, Bool, true, false, List, [], ◌∷◌, length, map, Option, None, Some, option_map, unwrap_or, slice_set, slice_index_or, refl, sym, ap, subst, ◌∙◌, arith, inl, inr}
 use Rattle.std.proofs.Math.ListN.{get_or}
 use Rattle.std.proofs.Math.Nat.{mod-add-mod, add-mod_right}
 use Rattle.std.specs.List.{fold}
 use Rattle.std.proofs.lemmas.Bool.{cases_lt}
 use Rattle.std.proofs.lemmas.Bool.Decides.{nat_tests}
 use Rattle.ppp_mp.specs.Whole.{Piece, piece_at, joined, Begun}
-use Rattle.ppp_mp.specs.Delivered.{Gathering, AtRest, Keeps, IsMember, Rule, Rules, Settles, ruled, behind, goes_on, loses, completes, lesser, lowest, mark, brings, joins, leaves, keeps_piece}
+use Rattle.ppp_mp.specs.Delivered.{Gathering, AtRest, Keeps, Rule, Rules, Settles, ruled, behind, goes_on, loses, completes, lesser, lowest, mark, brings, joins, leaves, keeps_piece}
 use Rattle.ppp_mp.specs.Places.{place}
 use Rattle.ppp_mp.specs.StandsFor.{KeepsNow, HasTaken, HasSettledNow, HasSettled, stopped, IsMoved, waiting, arrived, counted, overs_of}
 use Rattle.ppp_mp.specs.LongHeader.{long_space}
@@ -264,7 +264,7 @@ taken_kept g g3 g4 g5 g6 g7 packets3 packets7 s at ahead field bound left far d 
     let r7 = settled7 s.given (brings (keeps_piece (waiting (s.least + ahead) p) (loses r3.0 far)) (at + 1) (s.least + ahead)) (record { keeps = keeps6; given = r3.2.given }) in
     let P7 = λ (m : ℕ). Settles m (mark (brings s5 (at + 1) (s.least + ahead))) (brings s5 (at + 1) (s.least + ahead)) r7.0 in
     let Q7 = λ (c : ℕ).
-        (let now : Gathering = brings (keeps_piece (waiting (s.least + ahead) p) (loses r3.0 c)) (at + 1) (s.least + ahead) in Settles g.mrru (mark now) now r7.0) in
+    (let now : Gathering = brings (keeps_piece (waiting (s.least + ahead) p) (loses r3.0 c)) (at + 1) (s.least + ahead) in Settles g.mrru (mark now) now r7.0) in
     let small : field % long_space ≡ field = omega arith in
     let keeping : Keeps g.mrru s (at + 1) (waiting (s.least + ahead) p) r7.0 = record { mid = r3.0; before = r3.1; after = subst Q7 far_is (subst P7 mrru6 r7.1) } in (
       r7.0,

@@ -1,5 +1,5 @@
 -- Each packet that is given is whole.
-use Rattle.std.proofs.Common.{◌≡◌, ℕ, ◌+◌, ◌-◌, ◌≤◌, ◌==◌, ◌++◌, zero, suc, max, nat_lt, nat_eq, cond, not, Bool, true, false, List, [], ◌∷◌, length, Option, None, Some, IsSome, slice_index_or, refl, sym, ap, subst, ◌∙◌, arith, ◌⊎◌, inl, inr, min, is_some, slice_set, rules, add-one}
+use Rattle.std.proofs.Common.{◌≡◌, ℕ, ◌+◌, ◌-◌, ◌++◌, zero, suc, max, nat_lt, nat_eq, cond, Bool, true, false, List, [], ◌∷◌, length, Option, None, Some, slice_index_or, refl, sym, ap, subst, ◌∙◌, arith, inl, inr, is_some, slice_set, rules, add-one}
 use Rattle.std.specs.List.{AllByRecursion}
 use Rattle.std.proofs.lemmas.Bool.Decides.{nat_tests}
 use Rattle.ppp_mp.specs.Whole.{Piece, piece_at, joined, octets_of, Begun, Whole}

@@ -1,5 +1,5 @@
 -- The long header of a piece (RFC 1990, section 3): B, E and six bits of zero, then a number of three octets, big-endian.
-use Rattle.std.specs.Prelude.{◌≡◌, ℕ, ◌+◌, ◌*◌, ◌/◌, ◌%◌, ◌==◌, nat_lt, Bool, if◌then◌else◌, List, [], ◌∷◌, slice_index, drop}
+use Rattle.std.specs.Prelude.{ℕ, ◌+◌, ◌*◌, ◌/◌, ◌%◌, ◌==◌, nat_lt, Bool, if◌then◌else◌, List, [], ◌∷◌, slice_index, drop}
 use Rattle.ppp_mp.specs.Delivered.{Fragment}
 
 -- how many numbers there are before they begin anew

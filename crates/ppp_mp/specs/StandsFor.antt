@@ -1,7 +1,7 @@
 -- How a gatherer stands for what has reached a bundle.
 use Rattle.std.specs.Prelude.{◌≡◌, ℕ, ◌+◌, ◌-◌, ◌%◌, ◌^◌, ◌≤◌, ◌<◌, min, List, [], ◌∷◌, ◌++◌, map, length, Option, None, option_map, IsSome, slice_index_or}
 use Rattle.ppp_mp.specs.Whole.{Piece, piece_at}
-use Rattle.ppp_mp.specs.Delivered.{Gathering, Fragment, Entry, Joins, Leaves, Comes, Delivered, AtRest, Settles, Takes, TakesOf, Left, mark, numbered}
+use Rattle.ppp_mp.specs.Delivered.{Gathering, Fragment, Entry, Comes, Delivered, Settles, Takes, TakesOf, Left, mark}
 use Rattle.ppp_mp.specs.LongHeader.{long_space}
 use Rattle.ppp_mp.specs.Places.{place, joined_there}
 use Rattle.ppp_mp.specs.declared.places.WaitingPiece.{WaitingPiece}
