@@ -22,6 +22,8 @@ mod packet;
 mod places;
 mod sending;
 mod settling;
+#[cfg(test)]
+mod tests;
 
 pub use counts::{GatherCounts, PieceNow};
 pub use cuts::{CutPiece, Cuts};

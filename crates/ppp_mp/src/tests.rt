@@ -1,0 +1,234 @@
+use super::*;
+use arrayvec::ArrayVec;
+use ppp_base::{Frame, LinkId};
+use std::process::Abort;
+use std::test::Fail;
+
+fn link(rt: &impl Abort, number: u8) -> LinkId {
+    LinkId::new(number).expect(rt, "1 to 16")
+}
+
+fn members_of(rt: &impl Abort, rows: &[(u8, u16)]) -> Members {
+    let mut members = Members::new();
+    for (number, mru) in rows {
+        let member = MemberView {
+            link: link(rt, *number),
+            mru: *mru,
+        };
+        assert!(rt; members.add(member), "at {number}");
+    }
+    members
+}
+
+// A piece as it goes out: its header and its octets.
+fn sent(packet: &[u8], cuts: &Cuts, at: u8, number: u32) -> Option<(LinkId, Frame)> {
+    let piece = cuts.get(at)?;
+    let begin = usize::from(piece.place);
+    let octets = packet.get(begin..begin + usize::from(piece.len))?;
+    let mut out: ArrayVec<u8, 1508> = ArrayVec::new();
+    out.try_extend_from_slice(&cuts.header(at, number)?).ok()?;
+    out.try_extend_from_slice(octets).ok()?;
+    Some((piece.link, Frame::from(out)))
+}
+
+// A piece that comes, the answer to it, and how many packets it gives.
+struct Row(u8, &'static [u8], PieceNow, u8);
+
+fn comes(rt: &impl Abort, gather: &mut Gather, given: &mut Given, rows: &[Row]) {
+    for Row(number, information, answer, packets) in rows {
+        assert!(rt; information.len() <= 1508);
+        let answered = gather.piece(link(rt, *number), information, given);
+        assert_eq!(rt;
+            (answered, given.count()),
+            (*answer, *packets),
+            "at {information:?}"
+        );
+    }
+}
+
+fn is_packet(given: &Given, at: u8, octets: &[u8]) -> bool {
+    match given.get(at) {
+        Some(packet) => *packet == *octets,
+        None => false,
+    }
+}
+
+#[test]
+fn members_in_link_order(rt: HostRuntime) {
+    let mut members = members_of(&rt, &[(1, 128), (7, 1500)]);
+    for (number, mru) in [(7, 1500), (6, 1500), (8, 127)] {
+        let member = MemberView {
+            link: link(&rt, number),
+            mru,
+        };
+        assert!(rt; !members.add(member), "at {number}");
+    }
+    assert_eq!(rt; members.len(), 2);
+    assert!(rt; !members.is_empty() && Members::new().is_empty());
+    assert_eq!(rt;
+        members.as_slice().last().map(|member| member.mru),
+        Some(1500)
+    );
+}
+
+#[test]
+fn sizes_of_pieces(rt: HostRuntime) {
+    // The members' MRU, the length, the turn, how many pieces, and the size and the link of the first and the last.
+    let rows: [(&[(u8, u16)], u16, u8, u8, u16, u8, u16, u8); 6] = [
+        (&[(1, 1500), (2, 1500)], 300, 0, 2, 150, 1, 150, 2),
+        (&[(1, 1500), (2, 1500)], 128, 1, 1, 128, 2, 128, 2),
+        (&[(1, 1500), (2, 1500)], 129, 3, 2, 65, 2, 64, 1),
+        (&[(3, 1500)], 1500, 9, 2, 1496, 3, 4, 3),
+        (&[(1, 128), (2, 1500), (9, 1500)], 400, 2, 4, 124, 9, 28, 9),
+        (&[(1, 128)], 2050, 0, 17, 124, 1, 66, 1),
+    ];
+    for (rows, len, turn, count, first, from, last, to) in rows {
+        let members = members_of(&rt, rows);
+        assert!(rt; 0 < members.len() && 0 < len && len <= 2050);
+        let cuts = cut(len, &members, turn);
+        assert_eq!(rt; cuts.count(), count, "at {len}");
+        let piece = cuts.get(0).expect(&rt, "one piece at least");
+        assert_eq!(rt;
+            (piece.place, piece.len, piece.link.number()),
+            (0, first, from),
+            "at {len}"
+        );
+        let piece = cuts.get(count.saturating_sub(1)).expect(&rt, "as counted");
+        assert_eq!(rt; (piece.len, piece.link.number()), (last, to), "at {len}");
+        assert!(rt; cuts.get(count).is_none() && cuts.header(count, 0).is_none());
+    }
+}
+
+#[test]
+fn a_datagram_over_two_links(rt: HostRuntime) -> Result<(), Fail> {
+    let members = members_of(&rt, &[(1, 1500), (2, 1500)]);
+    let packet = [0x21u8; 300];
+    assert!(rt; 0 < members.len());
+    let mut sending = Sending::new();
+    let cuts = sending.cut(300, &members);
+    assert_eq!(rt; (sending.number, sending.turn), (2, 2));
+    let (from, first) = sent(&packet, &cuts, 0, 0).expect(&rt, "the first piece");
+    let (to, second) = sent(&packet, &cuts, 1, 0).expect(&rt, "the second piece");
+    assert_eq!(rt;
+        (from.number(), to.number(), first.len(), second.len()),
+        (1, 2, 154, 154)
+    );
+    assert!(rt; first.as_slice().starts_with(&[0x80, 0, 0, 0, 0x21]));
+    assert!(rt; second.as_slice().starts_with(&[0x40, 0, 0, 1, 0x21]));
+
+    let mut gather = Gather::new(rt.alloc(), 1500)?;
+    let mut given = Given::new(rt.alloc())?;
+    gather.join(from);
+    gather.join(to);
+    assert_eq!(rt;
+        gather.piece(to, second.as_slice(), &mut given),
+        PieceNow::Kept
+    );
+    assert_eq!(rt;
+        gather.piece(to, second.as_slice(), &mut given),
+        PieceNow::Doubled
+    );
+    assert_eq!(rt; given.count(), 0);
+    assert_eq!(rt;
+        gather.piece(from, first.as_slice(), &mut given),
+        PieceNow::Kept
+    );
+    assert_eq!(rt; given.count(), 1);
+    assert!(rt; is_packet(&given, 0, &packet) && given.get(1).is_none());
+    assert_eq!(rt;
+        gather.piece(from, first.as_slice(), &mut given),
+        PieceNow::Old
+    );
+    gather.leave(from, &mut given);
+    assert_eq!(rt;
+        gather.piece(from, first.as_slice(), &mut given),
+        PieceNow::Stranger
+    );
+    assert_eq!(rt;
+        gather.counts(),
+        GatherCounts {
+            old: 1,
+            doubled: 1,
+            lost: 0,
+            too_long: 0
+        }
+    );
+    gather.restart(2048);
+    assert_eq!(rt; gather.counts(), GatherCounts::default());
+    assert_eq!(rt;
+        gather.piece(to, second.as_slice(), &mut given),
+        PieceNow::Stranger
+    );
+    Ok(())
+}
+
+#[test]
+fn numbers_begin_anew(rt: HostRuntime) -> Result<(), Fail> {
+    let mut gather = Gather::new(rt.alloc(), 1500)?;
+    let mut given = Given::new(rt.alloc())?;
+    gather.join(link(&rt, 1));
+    comes(
+        &rt,
+        &mut gather,
+        &mut given,
+        &[
+            Row(1, &[0xc0, 0x7f, 0xff, 0xff], PieceNow::Kept, 1),
+            Row(1, &[0xc0, 0xff, 0xff, 0xfe], PieceNow::Kept, 1),
+            Row(1, &[0x80, 0xff, 0xff, 0xff, b'a'], PieceNow::Kept, 0),
+            Row(1, &[0x40, 0, 0, 0, b'b'], PieceNow::Kept, 1),
+        ],
+    );
+    assert!(rt; is_packet(&given, 0, b"ab"));
+    comes(
+        &rt,
+        &mut gather,
+        &mut given,
+        &[
+            Row(1, &[0xc0, 0xff, 0xff], PieceNow::BadHeader, 0),
+            Row(2, &[0xc0], PieceNow::Stranger, 0),
+            Row(1, &[0xc0, 0xff, 0xff, 0xff], PieceNow::Old, 0),
+        ],
+    );
+    assert_eq!(rt; gather.counts().lost, 16_777_213);
+    Ok(())
+}
+
+#[test]
+fn a_member_that_lags(rt: HostRuntime) -> Result<(), Fail> {
+    let mut gather = Gather::new(rt.alloc(), 1500)?;
+    let mut given = Given::new(rt.alloc())?;
+    gather.join(link(&rt, 1));
+    gather.join(link(&rt, 2));
+    for number in 1..128u8 {
+        let answered = gather.piece(link(&rt, 1), &[0xc0, 0, 0, number], &mut given);
+        assert_eq!(rt;
+            (answered, given.count()),
+            (PieceNow::Kept, 0),
+            "at {number}"
+        );
+    }
+    comes(
+        &rt,
+        &mut gather,
+        &mut given,
+        &[Row(1, &[0xc0, 0, 0, 128], PieceNow::Kept, 128)],
+    );
+    assert_eq!(rt; gather.counts().lost, 1);
+    Ok(())
+}
+
+#[test]
+fn a_far_jump(rt: HostRuntime) -> Result<(), Fail> {
+    let mut gather = Gather::new(rt.alloc(), 1500)?;
+    let mut given = Given::new(rt.alloc())?;
+    gather.join(link(&rt, 1));
+    comes(
+        &rt,
+        &mut gather,
+        &mut given,
+        &[Row(1, &[0xc0, 0x7f, 0xfd, 0xa0, b'x'], PieceNow::Kept, 1)],
+    );
+    assert!(rt; is_packet(&given, 0, b"x"));
+    assert_eq!(rt; gather.counts().lost, 8_388_000);
+    Ok(())
+}
