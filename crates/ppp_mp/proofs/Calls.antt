@@ -2,7 +2,8 @@
 use Rattle.std.proofs.Common.{◌≡◌, ℕ, ◌+◌, ◌-◌, ◌++◌, List, [], Option, None, Some, IsSome, is_some, true, false, slice_set, slice_index_or, refl, sym, ap, subst, ◌∙◌, append-nil, arith}
 use Rattle.ppp_mp.specs.Delivered.{Gathering, Entry, Fragment, Joins, Leaves, Delivered, Settles, AtRest, IsMember, Takes, Left, joins, leaves, mark}
 use Rattle.ppp_mp.specs.LongHeader.{long_space}
-use Rattle.ppp_mp.specs.StandsFor.{KeepsNow, StandsFor, Adds, AddsPiece, HasTaken, HasSettledNow}
+use Rattle.ppp_mp.specs.Moves.{HasTaken, HasSettledNow}
+use Rattle.ppp_mp.specs.StandsFor.{KeepsNow, StandsFor, Adds, AddsPiece}
 use Rattle.ppp_mp.specs.declared.counts.PieceNow.{PieceNow}
 use Rattle.ppp_mp.specs.declared.counts.PieceNow.TheVariants.{Stranger}
 use Rattle.ppp_mp.specs.declared.facts.GatherFacts.{GatherFacts}

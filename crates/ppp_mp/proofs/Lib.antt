@@ -8,5 +8,6 @@ pub mod Taking
 pub mod Calls
 pub mod Numbers
 pub mod Histories
+pub mod Origins
 pub mod Wholes
 pub mod Once

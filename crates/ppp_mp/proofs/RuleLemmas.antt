@@ -6,7 +6,8 @@ use Rattle.std.proofs.lemmas.Bool.Decides.{nat_tests}
 use Rattle.ppp_mp.specs.Whole.{Piece, piece_at, joined, octets_of, Begun}
 use Rattle.ppp_mp.specs.Delivered.{Gathering, Rule, AtRest, ruled, loses, completes}
 use Rattle.ppp_mp.specs.Places.{place, turn_at, goes_on_there, Scanned, BegunThere, joined_there, octets_there}
-use Rattle.ppp_mp.specs.StandsFor.{KeepsNow, IsMoved, waiting, stopped, counted}
+use Rattle.ppp_mp.specs.Moves.{IsMoved}
+use Rattle.ppp_mp.specs.StandsFor.{KeepsNow, waiting, stopped, counted}
 use Rattle.ppp_mp.specs.LongHeader.{long_space}
 use Rattle.ppp_mp.specs.declared.places.WaitingPiece.{WaitingPiece}
 use Rattle.ppp_mp.specs.declared.places.Turn.{Turn}

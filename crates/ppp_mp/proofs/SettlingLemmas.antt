@@ -5,7 +5,8 @@ use Rattle.std.proofs.lemmas.Bool.Decides.{nat_tests}
 use Rattle.ppp_mp.specs.Whole.{joined, piece_at}
 use Rattle.ppp_mp.specs.Delivered.{Gathering, Rule, Rules, AtRest, loses, completes, ruled}
 use Rattle.ppp_mp.specs.Places.{place, AreMissing, Scanned, joined_there, tally, waits, ends, turn_at, goes_on_there}
-use Rattle.ppp_mp.specs.StandsFor.{waiting, KeepsNow, IsMoved, HasCompleted, HasSettled, Holds, stopped, counted}
+use Rattle.ppp_mp.specs.Moves.{IsMoved, HasCompleted, HasSettled, Holds}
+use Rattle.ppp_mp.specs.StandsFor.{waiting, KeepsNow, stopped, counted}
 use Rattle.ppp_mp.specs.declared.places.WaitingPiece.{WaitingPiece}
 use Rattle.ppp_mp.specs.declared.places.Turn.{Turn}
 use Rattle.ppp_mp.specs.declared.places.Turn.TheVariants.{Rests, Loses, Completes}

@@ -8,7 +8,8 @@ use Rattle.std.proofs.lemmas.Bool.Decides.{nat_tests}
 use Rattle.ppp_mp.specs.Whole.{Piece, piece_at, joined, Begun}
 use Rattle.ppp_mp.specs.Delivered.{Gathering, AtRest, Keeps, Rule, Rules, Settles, ruled, behind, goes_on, loses, completes, lesser, lowest, mark, brings, joins, leaves, keeps_piece}
 use Rattle.ppp_mp.specs.Places.{place}
-use Rattle.ppp_mp.specs.StandsFor.{KeepsNow, HasTaken, HasSettledNow, HasSettled, stopped, IsMoved, waiting, arrived, counted, overs_of}
+use Rattle.ppp_mp.specs.Moves.{HasTaken, HasSettledNow, HasSettled, IsMoved, arrived}
+use Rattle.ppp_mp.specs.StandsFor.{KeepsNow, stopped, waiting, counted, overs_of}
 use Rattle.ppp_mp.specs.LongHeader.{long_space}
 use Rattle.ppp_mp.specs.declared.places.WaitingPiece.{WaitingPiece}
 use Rattle.ppp_mp.specs.declared.facts.GatherFacts.{GatherFacts}

@@ -1,43 +1,45 @@
 -- Each packet that is given is whole.
-use Rattle.std.proofs.Common.{◌≡◌, ℕ, ◌+◌, ◌-◌, ◌++◌, zero, suc, max, nat_lt, nat_eq, cond, Bool, true, false, List, [], ◌∷◌, length, Option, None, Some, slice_index_or, refl, sym, ap, subst, ◌∙◌, arith, inl, inr, is_some, slice_set, rules, add-one}
-use Rattle.std.specs.List.{AllByRecursion}
+use Rattle.std.proofs.Common.{◌≡◌, ℕ, ◌+◌, ◌-◌, ◌≤◌, ◌++◌, zero, suc, max, nat_lt, nat_eq, cond, Bool, true, false, List, [], ◌∷◌, length, Option, None, Some, slice_index_or, refl, sym, ap, subst, ◌∙◌, arith, inl, inr, is_some, slice_set, rules, add-one}
 use Rattle.std.proofs.lemmas.Bool.Decides.{nat_tests}
-use Rattle.ppp_mp.specs.Whole.{Piece, piece_at, joined, octets_of, Begun, Whole}
+use Rattle.ppp_mp.specs.Whole.{Piece, piece_at, joined, octets_of, Begun, Whole, AreInOrder}
 use Rattle.ppp_mp.specs.Delivered.{Gathering, Entry, Joins, Leaves, Comes, Delivered, Takes, Left, Keeps, Answered, numbered, Rule, Rules, Settles, ruled, behind, goes_on, loses, completes, leaves, brings, keeps_piece, mark}
 use Rattle.ppp_mp.specs.declared.counts.PieceNow.{PieceNow}
 use Rattle.ppp_mp.specs.declared.counts.PieceNow.TheVariants.{Kept, Old, Doubled, Stranger, BadHeader}
 use Rattle.ppp_mp.proofs.Rests.{Stays, rules_stay, some_same, goes_first, member_cases}
 
--- Each packet that was given is whole.
+-- Each packet that was given is whole, and they are in order.
 abbrev pub AllWhole : Gathering → Type 0
-AllWhole s = AllByRecursion (Whole s.kept) s.given
+AllWhole s = AreInOrder s.kept 0 s.least s.given
 
-all-snoc : (P : List ℕ → Type 0) (xs : List (List ℕ)) (x : List ℕ) → AllByRecursion P xs → P x → AllByRecursion P (xs ++ x ∷ [])
-all-snoc P [] x all here = (here, tt)
-all-snoc P (y ∷ ys) x all here = (all.0, all-snoc P ys x all.1 here)
+order_more : (kept : List Piece) (low middle high : ℕ) (xs : List (List ℕ)) (x : List ℕ) (w : Whole kept x) → AreInOrder kept low middle xs → middle ≤ w.from → w.from + suc w.others ≤ high → AreInOrder kept low high (xs ++ x ∷ [])
+order_more kept low middle high [] x w all starts ends = (w, omega arith, ends)
+order_more kept low middle high (y ∷ ys) x w all starts ends = (all.0, all.1, order_more kept (all.0.from + suc all.0.others) middle high ys x w all.2 starts ends)
 
-all-map : (P Q : List ℕ → Type 0) (xs : List (List ℕ)) → ((x : List ℕ) → P x → Q x) → AllByRecursion P xs → AllByRecursion Q xs
-all-map P Q [] f all = tt
-all-map P Q (x ∷ xs) f all = (f x all.0, all-map P Q xs f all.1)
+order_raised : (kept : List Piece) (low middle high : ℕ) (xs : List (List ℕ)) → AreInOrder kept low middle xs → middle ≤ high → AreInOrder kept low high xs
+order_raised kept low middle high [] all le = omega arith
+order_raised kept low middle high (y ∷ ys) all le = (all.0, all.1, order_raised kept (all.0.from + suc all.0.others) middle high ys all.2 le)
+
+abbrev whole_run : (s : Gathering) (len : ℕ) (p : Piece) → Begun s.kept s.least len → behind s len ≡ Some p → goes_on p len ≡ true → p.last ≡ true → Whole s.kept (joined s.kept s.least (len + 1))
+whole_run s len p begun there goes last = record {
+  from = s.least;
+  others = len;
+  end = p;
+  begun = begun;
+  ends = there;
+  first = goes_first p len goes;
+  last = last;
+  octets = ap (joined s.kept s.least) (add-one len);
+}
 
 completes_whole : (mrru : ℕ) (s : Gathering) (len : ℕ) (p : Piece) → Begun s.kept s.least len → behind s len ≡ Some p → goes_on p len ≡ true → p.last ≡ true → AllWhole s → AllWhole (completes mrru s (len + 1))
 completes_whole mrru s len p begun there goes last all = by_length (nat_lt (mrru + 2) (length (joined s.kept s.least (len + 1))))
   where
     by_length : (b : Bool) → AllWhole (cond b (record s { least = s.least + (len + 1); too_long = s.too_long + 1 }) (record s { least = s.least + (len + 1); given = s.given ++ joined s.kept s.least (len + 1) ∷ [] }))
-    by_length true = all
-    by_length false = all-snoc (Whole s.kept) s.given (joined s.kept s.least (len + 1)) all (record {
-      from = s.least;
-      others = len;
-      end = p;
-      begun = begun;
-      ends = there;
-      first = goes_first p len goes;
-      last = last;
-      octets = ap (joined s.kept s.least) (add-one len);
-    })
+    by_length true = order_raised s.kept 0 s.least (s.least + (len + 1)) s.given all (omega arith)
+    by_length false = order_more s.kept 0 s.least (s.least + (len + 1)) s.given (joined s.kept s.least (len + 1)) (whole_run s len p begun there goes last) all (omega arith) (omega arith)
 
 loses_whole : (s new : Gathering) (count : ℕ) → Some (loses s count) ≡ Some new → AllWhole s → AllWhole new
-loses_whole s new count e all = subst (λ (x : Gathering). AllWhole x) (some_same (loses s count) new e) all
+loses_whole s new count e all = subst (λ (x : Gathering). AllWhole x) (some_same (loses s count) new e) (order_raised s.kept 0 s.least (s.least + count) s.given all (omega arith))
 
 none_whole : (s new : Gathering) (count : ℕ) (b : Bool) → cond b (Some (loses s count)) None ≡ Some new → AllWhole s → AllWhole new
 none_whole s new count true e all = loses_whole s new count e all
@@ -82,7 +84,7 @@ joined-grown kept p from (suc len) none begun =
     let e : octets_of (piece_at (from + len) kept) ≡ octets_of (piece_at (from + len) (p ∷ kept)) = ap octets_of (t.1 ∙ sym (grown kept p t.0 (from + len) none t.1)) in
     ap (λ l. l ++ octets_of (piece_at (from + len) kept)) h ∙ ap (λ l. joined (p ∷ kept) from len ++ l) e
 
-whole_grown : (kept : List Piece) (p : Piece) (packet : List ℕ) → piece_at p.number kept ≡ None → Whole kept packet → Whole (p ∷ kept) packet
+abbrev whole_grown : (kept : List Piece) (p : Piece) (packet : List ℕ) → piece_at p.number kept ≡ None → Whole kept packet → Whole (p ∷ kept) packet
 whole_grown kept p packet none w = record {
   from = w.from;
   others = w.others;
@@ -96,6 +98,10 @@ whole_grown kept p packet none w = record {
       ∙ ap (λ l. joined (p ∷ kept) w.from w.others ++ l) (ap octets_of (w.ends ∙ sym (grown kept p w.end (w.from + w.others) none w.ends)));
 }
 
+order_grown : (kept : List Piece) (p : Piece) (low high : ℕ) (xs : List (List ℕ)) → piece_at p.number kept ≡ None → AreInOrder kept low high xs → AreInOrder (p ∷ kept) low high xs
+order_grown kept p low high [] none all = all
+order_grown kept p low high (y ∷ ys) none all = (whole_grown kept p y none all.0, all.1, order_grown kept p (all.0.from + suc all.0.others) high ys none all.2)
+
 kept_whole : (mrru : ℕ) (s new : Gathering) (link : ℕ) (p : Piece) → piece_at p.number s.kept ≡ None → Keeps mrru s link p new → AllWhole s → AllWhole new
 kept_whole mrru s new link p none keeps all =
     let bound : ℕ = max (mark s) (p.number - 127) in
@@ -103,7 +109,9 @@ kept_whole mrru s new link p none keeps all =
     let before : AllWhole keeps.mid = settles_whole mrru (max (mark s) (p.number - 127)) s keeps.mid keeps.before all in
     let gone : piece_at p.number keeps.mid.kept ≡ None = ap (piece_at p.number) stays.kept ∙ none in
     let now : Gathering = brings (keeps_piece p (loses keeps.mid (p.number - 127 - keeps.mid.least))) link p.number in
-    let with_it : AllWhole now = all-map (Whole keeps.mid.kept) (Whole (p ∷ keeps.mid.kept)) keeps.mid.given (λ x w. whole_grown keeps.mid.kept p x gone w) before in
+    let raised : AreInOrder keeps.mid.kept 0 (keeps.mid.least + (p.number - 127 - keeps.mid.least)) keeps.mid.given =
+    order_raised keeps.mid.kept 0 keeps.mid.least (keeps.mid.least + (p.number - 127 - keeps.mid.least)) keeps.mid.given before (omega arith) in
+    let with_it : AllWhole now = order_grown keeps.mid.kept p 0 (keeps.mid.least + (p.number - 127 - keeps.mid.least)) keeps.mid.given gone raised in
     settles_whole mrru (mark now) now new keeps.after with_it
 
 answered_whole : (mrru : ℕ) (s new : Gathering) (link : ℕ) (p : Piece) (answer : PieceNow) → Answered mrru s link p answer new → AllWhole s → AllWhole new
@@ -124,7 +132,7 @@ left_whole mrru s new link left all = elim (member_cases (slice_index_or s.broug
 ]
 
 pub delivered_whole : (space mrru : ℕ) (past : List Entry) (s : Gathering) → Delivered space mrru past s → AllWhole s
-delivered_whole space mrru [] s d = subst (λ (x : Gathering). AllWhole x) (sym d) tt
+delivered_whole space mrru [] s d = subst (λ (x : Gathering). AllWhole x) (sym d) (omega arith)
 delivered_whole space mrru (Joins link ∷ past) s d =
     let all : AllWhole d.0 = delivered_whole space mrru past d.0 d.1 in
     subst (λ (x : Gathering). AllWhole x) (sym d.2) (joins_whole d.0 link (is_some (slice_index_or d.0.brought (link - 1) None)) all)

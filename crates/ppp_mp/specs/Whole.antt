@@ -1,5 +1,5 @@
 -- Pieces with their full numbers, and the packets that they make (RFC 1990, section 4).
-use Rattle.std.specs.Prelude.{◌≡◌, ℕ, ◌+◌, ◌<◌, ◌==◌, zero, suc, Bool, true, false, List, [], ◌++◌, Option, None, Some, find}
+use Rattle.std.specs.Prelude.{◌≡◌, ℕ, ◌+◌, ◌<◌, ◌≤◌, ◌==◌, zero, suc, Bool, true, false, List, [], ◌∷◌, ◌++◌, Option, None, Some, find}
 
 -- A piece. Full numbers stand raised by the size of the number space, so that none is below 0.
 pub record Piece : Type 0 where
@@ -39,3 +39,9 @@ pub record Whole (kept : List Piece) (packet : List ℕ) : Type 0 where
   pub first : end.first ≡ (others == 0)
   pub last : end.last ≡ true
   pub octets : packet ≡ joined kept from (suc others)
+
+-- The packets are whole, in the order of their numbers, and no number is in two of them: the first begins at `low` or
+-- behind it, each other one behind the end of the one before, and all end below `high`.
+abbrev pub AreInOrder : (kept : List Piece) (low high : ℕ) → List (List ℕ) → Type 0
+AreInOrder kept low high [] = low ≤ high
+AreInOrder kept low high (packet ∷ packets) = (whole : Whole kept packet) × (low ≤ whole.from) × AreInOrder kept (whole.from + suc whole.others) high packets

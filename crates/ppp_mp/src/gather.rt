@@ -1,7 +1,8 @@
 ghost use Rattle.std.specs.Prelude.{◌≡◌, ◌≢◌, ℕ, ◌+◌, ◌*◌, ◌<◌, ◌≤◌, ◌↔◌, ◌⊎◌, List, [], length, IfOk, IsSome, IfSome};
 ghost use Rattle.ppp_mp.specs.Delivered.{Entry, Joins, Leaves, Gathering, nothing};
 ghost use Rattle.ppp_mp.specs.LongHeader.{fragment_of, long_space};
-ghost use Rattle.ppp_mp.specs.StandsFor.{StandsFor, Adds, AddsPiece, IsJoined, counted, arrived};
+ghost use Rattle.ppp_mp.specs.Moves.{arrived};
+ghost use Rattle.ppp_mp.specs.StandsFor.{StandsFor, Adds, AddsPiece, IsJoined, counted};
 
 use crate::counts::{GatherCounts, PieceNow};
 use crate::facts::GatherFacts;

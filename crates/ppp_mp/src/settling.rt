@@ -1,7 +1,8 @@
 ghost use Rattle.std.specs.Prelude.{◌≡◌, ◌≢◌, ℕ, ◌+◌, ◌-◌, ◌%◌, ◌^◌, ◌<◌, ◌≤◌, List, [], ◌∷◌, ◌++◌, length, min, map, option_map, None, Some, unwrap_or, false, max, slice_set, slice_index_or, ◌==◌, if◌then◌else◌, is_some};
 ghost use Rattle.ppp_mp.specs.Delivered.{lowest, lesser, Gathering, AtRest, mark};
 ghost use Rattle.ppp_mp.specs.Places.{place, tally, ends};
-ghost use Rattle.ppp_mp.specs.StandsFor.{IsMoved, HasSettled, HasSettledNow, HasCompleted, HasTaken, HasLeft, KeepsNow, arrived};
+ghost use Rattle.ppp_mp.specs.Moves.{IsMoved, HasSettled, HasSettledNow, HasCompleted, HasTaken, arrived};
+ghost use Rattle.ppp_mp.specs.StandsFor.{KeepsNow};
 
 use crate::counts::PieceNow;
 use crate::facts::GatherFacts;

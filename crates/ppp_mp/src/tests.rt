@@ -1,6 +1,7 @@
 use super::*;
 use arrayvec::ArrayVec;
 use ppp_base::{Frame, LinkId};
+use std::alloc::{AllocError, Global};
 use std::process::Abort;
 use std::test::Fail;
 
@@ -230,5 +231,227 @@ fn a_far_jump(rt: HostRuntime) -> Result<(), Fail> {
     );
     assert!(rt; is_packet(&given, 0, b"x"));
     assert_eq!(rt; gather.counts().lost, 8_388_000);
+    Ok(())
+}
+
+const SPACE: u64 = 1 << 24;
+
+// The definition again as a plain program, one number at a time, for small histories: full numbers from 2^24 on, every
+// piece that was kept, and what was given in the last call.
+#[derive(Drop)]
+struct Plain {
+    least: u64,
+    kept: Vec<Fragment>,
+    brought: [Option<u64>; 4],
+    given: Vec<Vec<u8>>,
+    counts: GatherCounts,
+}
+
+#[derive(Clone, Copy, Debug)]
+struct Fragment {
+    number: u64,
+    first: bool,
+    last: bool,
+    octet: u8,
+}
+
+impl Plain {
+    fn new(alloc: Global) -> Plain {
+        Plain {
+            least: SPACE,
+            kept: Vec::new(alloc),
+            brought: [None; 4],
+            given: Vec::new(alloc),
+            counts: GatherCounts::default(),
+        }
+    }
+
+    fn kept_at(&self, number: u64) -> Option<Fragment> {
+        self.kept
+            .iter()
+            .copied()
+            .find(|piece| piece.number == number)
+    }
+
+    fn mark(&self) -> u64 {
+        self.brought
+            .iter()
+            .copied()
+            .flatten()
+            .min()
+            .unwrap_or(self.least)
+    }
+
+    fn lose(&mut self, count: u64) {
+        self.least = self.least.saturating_add(count);
+        self.counts.lost = self.counts.lost.saturating_add(count);
+    }
+
+    fn complete(&mut self, alloc: Global, count: u64) -> Result<(), AllocError> {
+        let mut packet = Vec::new(alloc);
+        for i in 0..count {
+            if let Some(piece) = self.kept_at(self.least.saturating_add(i)) {
+                packet.push(piece.octet)?;
+            }
+        }
+        self.given.push(packet)?;
+        self.least = self.least.saturating_add(count);
+        Ok(())
+    }
+
+    // Applies the one rule that applies. False where none does.
+    fn rule(&mut self, alloc: Global, bound: u64) -> Result<bool, AllocError> {
+        for len in 0..1000u64 {
+            let number = self.least.saturating_add(len);
+            match self.kept_at(number) {
+                None if number < bound => {
+                    self.lose(len + 1);
+                    return Ok(true);
+                }
+                None => return Ok(false),
+                Some(piece) if piece.first != (len == 0) => {
+                    self.lose(len.max(1));
+                    return Ok(true);
+                }
+                Some(piece) if piece.last => {
+                    self.complete(alloc, len + 1)?;
+                    return Ok(true);
+                }
+                Some(_) => {}
+            }
+        }
+        Ok(false)
+    }
+
+    fn settle(&mut self, alloc: Global, bound: u64) -> Result<(), AllocError> {
+        for _ in 0..1000 {
+            if !self.rule(alloc, bound)? {
+                break;
+            }
+        }
+        Ok(())
+    }
+
+    fn brings(&mut self, link: usize, number: u64) {
+        if let Some(brought) = self.brought.get_mut(link) {
+            *brought = Some(number.max(brought.unwrap_or(0)));
+        }
+    }
+
+    fn piece(
+        &mut self,
+        alloc: Global,
+        link: usize,
+        piece: Fragment,
+    ) -> Result<PieceNow, AllocError> {
+        self.given.clear();
+        if self.brought.get(link).copied().flatten().is_none() {
+            return Ok(PieceNow::Stranger);
+        }
+        let answer = if piece.number < self.least {
+            self.counts.old = self.counts.old.saturating_add(1);
+            PieceNow::Old
+        } else if self.kept_at(piece.number).is_some() {
+            self.counts.doubled = self.counts.doubled.saturating_add(1);
+            PieceNow::Doubled
+        } else {
+            let low = piece.number.saturating_sub(127);
+            self.settle(alloc, self.mark().max(low))?;
+            self.lose(low.saturating_sub(self.least));
+            self.kept.push(piece)?;
+            PieceNow::Kept
+        };
+        self.brings(link, piece.number);
+        self.settle(alloc, self.mark())?;
+        Ok(answer)
+    }
+
+    fn leave(&mut self, alloc: Global, link: usize) -> Result<(), AllocError> {
+        self.given.clear();
+        if let Some(brought) = self.brought.get_mut(link) {
+            if brought.is_some() {
+                *brought = None;
+                self.settle(alloc, self.mark())?;
+            }
+        }
+        Ok(())
+    }
+
+    fn join(&mut self, link: usize) {
+        let before = self.least.saturating_sub(1);
+        if let Some(brought) = self.brought.get_mut(link) {
+            if brought.is_none() {
+                *brought = Some(before);
+            }
+        }
+    }
+
+    fn has_given(&self, given: &Given) -> bool {
+        let mut same = self.given.len() == usize::from(given.count());
+        for (at, packet) in self.given.iter().enumerate() {
+            same = same && at < 256 && is_packet(given, at as u8, packet.as_slice());
+        }
+        same
+    }
+}
+
+// The next of a row of numbers that look like chance.
+fn next(word: u32) -> u32 {
+    word.wrapping_mul(1_664_525).wrapping_add(1_013_904_223)
+}
+
+#[test]
+fn the_plain_program_agrees(rt: HostRuntime) -> Result<(), Fail> {
+    let mut gather = Gather::new(rt.alloc(), 1500)?;
+    let mut given = Given::new(rt.alloc())?;
+    let mut word = 7;
+    let mut packets = 0u32;
+    for history in 0..400u32 {
+        gather.restart(1500);
+        let mut plain = Plain::new(rt.alloc());
+        let span = if history % 4 == 0 { 300 } else { 6 };
+        for step in 0..24u32 {
+            word = next(word);
+            let ahead = plain.least.saturating_add(u64::from((word >> 16) % span));
+            let number = ahead.saturating_sub(SPACE + 2) % 65536;
+            let bits = (word >> 10) % 4 * 64;
+            let at = (word >> 28) % 3 + 1;
+            let from = link(&rt, at as u8);
+            match (word >> 24) % 16 {
+                0 | 1 => {
+                    gather.join(from);
+                    plain.join(at as usize);
+                }
+                2 => {
+                    gather.leave(from, &mut given);
+                    plain.leave(rt.alloc(), at as usize)?;
+                    assert!(rt; plain.has_given(&given), "at {history}, {step}");
+                }
+                _ => {
+                    let octet = (word >> 8) % 256;
+                    let information = [
+                        bits as u8,
+                        0,
+                        (number / 256) as u8,
+                        (number % 256) as u8,
+                        octet as u8,
+                    ];
+                    let answer = gather.piece(from, &information, &mut given);
+                    let piece = Fragment {
+                        number: SPACE + number,
+                        first: bits >= 128,
+                        last: bits % 128 >= 64,
+                        octet: octet as u8,
+                    };
+                    let wanted = plain.piece(rt.alloc(), at as usize, piece)?;
+                    assert_eq!(rt; answer, wanted, "at {history}, {step}");
+                    assert!(rt; plain.has_given(&given), "at {history}, {step}");
+                }
+            }
+            packets = packets.saturating_add(u32::from(given.count()));
+            assert_eq!(rt; gather.counts(), plain.counts, "at {history}, {step}");
+        }
+    }
+    assert!(rt; 400 < packets, "{packets} packets");
     Ok(())
 }

@@ -1,7 +1,8 @@
 use Rattle.std.proofs.Common.{◌≡◌, ◌+◌, ◌-◌, ℕ, List, [], true, false, is_some, arith, sym, ap, subst, refl, ◌∙◌, max, unwrap_or}
 use Rattle.ppp_mp.specs.Delivered.{lowest}
 use Rattle.ppp_mp.specs.Places.{place}
-use Rattle.ppp_mp.specs.StandsFor.{HasSettledNow, HasSettled, stopped}
+use Rattle.ppp_mp.specs.Moves.{HasSettledNow, HasSettled}
+use Rattle.ppp_mp.specs.StandsFor.{stopped}
 use Rattle.ppp_mp.specs.declared.facts.GatherFacts.{GatherFacts}
 use Rattle.ppp_mp.specs.declared.places.WaitingPiece.{WaitingPiece}
 use Rattle.ppp_mp.proofs.SettlingLemmas.{room_first, room_last}

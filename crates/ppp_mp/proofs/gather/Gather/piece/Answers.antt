@@ -1,6 +1,6 @@
 use Rattle.std.proofs.Common.{◌≡◌, ◌+◌, ◌-◌, ◌∙◌, ap, sym, None, true, false, is_some, slice_index_or, arith}
 use Rattle.ppp_mp.specs.LongHeader.{fragment_of}
-use Rattle.ppp_mp.specs.StandsFor.{arrived}
+use Rattle.ppp_mp.specs.Moves.{arrived}
 use Rattle.ppp_mp.proofs.Calls.{piece_stands, stranger_came}
 use Rattle.ppp_mp.proofs.gather.Gather.piece.Goals as goal
 
