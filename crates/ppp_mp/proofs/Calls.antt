@@ -8,6 +8,8 @@ use Rattle.ppp_mp.specs.declared.counts.PieceNow.{PieceNow}
 use Rattle.ppp_mp.specs.declared.counts.PieceNow.TheVariants.{Stranger}
 use Rattle.ppp_mp.specs.declared.facts.GatherFacts.{GatherFacts}
 use Rattle.ppp_mp.proofs.Rests.{delivered_rests}
+use Rattle.ppp_mp.specs.Whole.{AreInOrder}
+use Rattle.ppp_mp.proofs.Wholes.{delivered_whole}
 use Rattle.ppp_mp.proofs.Taking.{joins_keeps, leaves_keeps, member-is, is-member}
 
 no-member : (o : Option ℕ) → is_some o ≡ false → ¬ (IsSome o)
@@ -71,3 +73,7 @@ piece_stands g g1 g' packets past s link at fragment fragment' answer same link_
     let takes_now : Takes long_space g'.mrru s link fragment answer r.0 = subst (λ (m : ℕ). Takes long_space m s link fragment answer r.0) (sym mrru) takes_it in
     let delivered : Delivered long_space g'.mrru past s = subst (λ (m : ℕ). Delivered long_space m past s) (sym mrru) now.delivered in
     (r.0, takes_now, record { delivered = (s, delivered, answer, takes_now); keeps = r.2 }, r.3)
+
+-- Each packet that was given is whole.
+pub whole_now : (g : GatherFacts) (past : List Entry) (s : Gathering) → StandsFor g past s → AreInOrder s.kept 0 s.least s.given
+whole_now g past s stands = delivered_whole long_space g.mrru past s stands.delivered

@@ -9,7 +9,7 @@ use Rattle.ppp_mp.specs.declared.counts.PieceNow.TheVariants.{Kept, Old, Doubled
 use Rattle.ppp_mp.proofs.RuleLemmas.{inside_rests}
 use Rattle.ppp_mp.proofs.Rests.{Stays, Rises, rule_rises, rules_stay, member_cases, goes_first}
 use Rattle.ppp_mp.proofs.Once.{settles_once}
-use Rattle.ppp_mp.proofs.Numbers.{full_once, full_some}
+use Rattle.ppp_mp.proofs.FullNumbers.{full_once, full_some}
 
 -- Only one thing.
 keeps_once : (mrru : ℕ) (s new after : Gathering) (link : ℕ) (p : Piece) → Keeps mrru s link p new → Keeps mrru s link p after → new ≡ after

@@ -6,7 +6,7 @@ pub mod RuleLemmas
 pub mod SettlingLemmas
 pub mod Taking
 pub mod Calls
-pub mod Numbers
+pub mod FullNumbers
 pub mod Histories
 pub mod Origins
 pub mod Wholes

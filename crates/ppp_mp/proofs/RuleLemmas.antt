@@ -5,50 +5,50 @@ use Rattle.std.proofs.lemmas.Bool.{cases_lt}
 use Rattle.std.proofs.lemmas.Bool.Decides.{nat_tests}
 use Rattle.ppp_mp.specs.Whole.{Piece, piece_at, joined, octets_of, Begun}
 use Rattle.ppp_mp.specs.Delivered.{Gathering, Rule, AtRest, ruled, loses, completes}
-use Rattle.ppp_mp.specs.Places.{place, turn_at, goes_on_there, Scanned, BegunThere, joined_there, octets_there}
+use Rattle.ppp_mp.specs.Places.{place, rule_at, goes_on_there, Scanned, BegunThere, joined_there, octets_there}
 use Rattle.ppp_mp.specs.Moves.{IsMoved}
 use Rattle.ppp_mp.specs.StandsFor.{KeepsNow, waiting, stopped, counted}
 use Rattle.ppp_mp.specs.LongHeader.{long_space}
 use Rattle.ppp_mp.specs.declared.places.WaitingPiece.{WaitingPiece}
-use Rattle.ppp_mp.specs.declared.places.Turn.{Turn}
-use Rattle.ppp_mp.specs.declared.places.Turn.TheVariants.{Rests, Misses, Loses, Completes}
+use Rattle.ppp_mp.specs.declared.places.RuleNow.{RuleNow}
+use Rattle.ppp_mp.specs.declared.places.RuleNow.TheVariants.{Rests, Misses, Loses, Completes}
 use Rattle.ppp_mp.specs.declared.facts.GatherFacts.{GatherFacts}
 
--- what a turn makes of a gathering
-abbrev pub turned : ℕ → Gathering → Turn → Option Gathering
-turned mrru s Rests = None
-turned mrru s (Misses count) = None
-turned mrru s (Loses count) = Some (loses s count)
-turned mrru s (Completes count) = Some (completes mrru s count)
+-- what a rule makes of a gathering
+abbrev pub made_by : ℕ → Gathering → RuleNow → Option Gathering
+made_by mrru s Rests = None
+made_by mrru s (Misses count) = None
+made_by mrru s (Loses count) = Some (loses s count)
+made_by mrru s (Completes count) = Some (completes mrru s count)
 
 below-shift : (least len below : ℕ) → nat_lt (least + len) below ≡ nat_lt len (below - least)
 below-shift least len below = grind (arith, nat_tests)
 
-none_case : (mrru : ℕ) (s : Gathering) (count : ℕ) (b : Bool) → cond b (Some (loses s count)) None ≡ turned mrru s (cond b (Loses count) Rests)
+none_case : (mrru : ℕ) (s : Gathering) (count : ℕ) (b : Bool) → cond b (Some (loses s count)) None ≡ made_by mrru s (cond b (Loses count) Rests)
 none_case mrru s count true = refl
 none_case mrru s count false = refl
 
-some_case : (mrru : ℕ) (s : Gathering) (most count : ℕ) (a b : Bool) → cond a (cond b (Some (completes mrru s count)) None) (Some (loses s most)) ≡ turned mrru s (cond a (cond b (Completes count) Rests) (Loses most))
+some_case : (mrru : ℕ) (s : Gathering) (most count : ℕ) (a b : Bool) → cond a (cond b (Some (completes mrru s count)) None) (Some (loses s most)) ≡ made_by mrru s (cond a (cond b (Completes count) Rests) (Loses most))
 some_case mrru s most count true true = refl
 some_case mrru s most count true false = refl
 some_case mrru s most count false b = refl
 
-pub ruled-turned : (mrru below : ℕ) (s : Gathering) (bound len n : ℕ) (o : Option WaitingPiece) → bound ≡ below - s.least → ruled mrru below s len (option_map (waiting n) o) ≡ turned mrru s (turn_at bound len o)
-ruled-turned mrru below s bound len n None is = rw (is, below-shift s.least len below) (none_case mrru s (len + 1) (nat_lt len (below - s.least)))
-ruled-turned mrru below s bound len n (Some p) is = some_case mrru s (max len 1) (len + 1) (goes_on_there p len) p.last
+pub ruled-made : (mrru below : ℕ) (s : Gathering) (bound len n : ℕ) (o : Option WaitingPiece) → bound ≡ below - s.least → ruled mrru below s len (option_map (waiting n) o) ≡ made_by mrru s (rule_at bound len o)
+ruled-made mrru below s bound len n None is = rw (is, below-shift s.least len below) (none_case mrru s (len + 1) (nat_lt len (below - s.least)))
+ruled-made mrru below s bound len n (Some p) is = some_case mrru s (max len 1) (len + 1) (goes_on_there p len) p.last
 
 pub begun_is : (g : GatherFacts) (s : Gathering) → KeepsNow g s → (len : ℕ) → BegunThere g.places len → Begun s.kept s.least len
 begun_is g s k len begun = λ i below. let t = begun i below in (waiting (s.least + i) t.0, k.places i ∙ ap (option_map (waiting (s.least + i))) t.1, t.2, t.3)
 
-pub scanned_rule : (mrru below : ℕ) (g : GatherFacts) (s new : Gathering) (bound : ℕ) (turn : Turn) → KeepsNow g s → bound ≡ below - s.least → Scanned g.places bound turn
-    → turned mrru s turn ≡ Some new → Rule mrru below s new
-scanned_rule mrru below g s new bound turn k is scanned makes = record {
+pub scanned_rule : (mrru below : ℕ) (g : GatherFacts) (s new : Gathering) (bound : ℕ) (rule : RuleNow) → KeepsNow g s → bound ≡ below - s.least → Scanned g.places bound rule
+    → made_by mrru s rule ≡ Some new → Rule mrru below s new
+scanned_rule mrru below g s new bound rule k is scanned makes = record {
   len = scanned.len;
   begun = begun_is g s k scanned.len scanned.begun;
   applies =
       ap (ruled mrru below s scanned.len) (k.places scanned.len)
-      ∙ ruled-turned mrru below s bound scanned.len (s.least + scanned.len) (place g.places scanned.len) is
-      ∙ ap (turned mrru s) scanned.is
+      ∙ ruled-made mrru below s bound scanned.len (s.least + scanned.len) (place g.places scanned.len) is
+      ∙ ap (made_by mrru s) scanned.is
       ∙ makes;
 }
 
@@ -70,8 +70,8 @@ scanned_rests mrru below g s bound k is scanned = λ len begun. elim (cases_lt l
         let at : len ≡ scanned.len = omega arith in
         rw at (
         ap (ruled mrru below s scanned.len) (k.places scanned.len)
-        ∙ ruled-turned mrru below s bound scanned.len (s.least + scanned.len) (place g.places scanned.len) is
-        ∙ ap (turned mrru s) scanned.is
+        ∙ ruled-made mrru below s bound scanned.len (s.least + scanned.len) (place g.places scanned.len) is
+        ∙ ap (made_by mrru s) scanned.is
         )
   ]
 ]

@@ -4,12 +4,12 @@ use Rattle.std.proofs.lemmas.Bool.{cases_lt}
 use Rattle.std.proofs.lemmas.Bool.Decides.{nat_tests}
 use Rattle.ppp_mp.specs.Whole.{joined, piece_at}
 use Rattle.ppp_mp.specs.Delivered.{Gathering, Rule, Rules, AtRest, loses, completes, ruled}
-use Rattle.ppp_mp.specs.Places.{place, AreMissing, Scanned, joined_there, tally, waits, ends, turn_at, goes_on_there}
+use Rattle.ppp_mp.specs.Places.{place, AreMissing, Scanned, joined_there, tally, waits, ends, rule_at, goes_on_there}
 use Rattle.ppp_mp.specs.Moves.{IsMoved, HasCompleted, HasSettled, Holds}
 use Rattle.ppp_mp.specs.StandsFor.{waiting, KeepsNow, stopped, counted}
 use Rattle.ppp_mp.specs.declared.places.WaitingPiece.{WaitingPiece}
-use Rattle.ppp_mp.specs.declared.places.Turn.{Turn}
-use Rattle.ppp_mp.specs.declared.places.Turn.TheVariants.{Rests, Loses, Completes}
+use Rattle.ppp_mp.specs.declared.places.RuleNow.{RuleNow}
+use Rattle.ppp_mp.specs.declared.places.RuleNow.TheVariants.{Rests, Loses, Completes}
 use Rattle.ppp_mp.specs.declared.facts.GatherFacts.{GatherFacts}
 use Rattle.ppp_mp.specs.declared.counts.GatherCounts.{GatherCounts}
 use Rattle.ppp_mp.proofs.RuleLemmas.{scanned_rule, scanned_rests, joined-same, moves, stopped-more}
@@ -175,7 +175,7 @@ some-completes true true k m count e = (cc, refl)
 some-completes true false k m count e = absurd (cc)
 some-completes false b k m count e = absurd (cc)
 
-completes-is : (bound len count : ℕ) (o : Option WaitingPiece) → turn_at bound len o ≡ Completes count → (count ≡ len + 1) × (ends o ≡ true)
+completes-is : (bound len count : ℕ) (o : Option WaitingPiece) → rule_at bound len o ≡ Completes count → (count ≡ len + 1) × (ends o ≡ true)
 completes-is bound len count None e = absurd (none-completes (nat_lt len bound) (len + 1) count e)
 completes-is bound len count (Some p) e = some-completes (goes_on_there p len) p.last (len + 1) (max len 1) count e
 
@@ -189,7 +189,7 @@ some-loses true false k m count e = absurd (cc)
 some-loses false b k m count e = cc
 
 -- What is lost is below the bound, or a piece is there.
-loses-is : (bound len count : ℕ) (o : Option WaitingPiece) → turn_at bound len o ≡ Loses count → ((count ≡ len + 1) × (count ≤ bound)) ⊎ ((count ≡ max len 1) × (waits o ≡ true))
+loses-is : (bound len count : ℕ) (o : Option WaitingPiece) → rule_at bound len o ≡ Loses count → ((count ≡ len + 1) × (count ≤ bound)) ⊎ ((count ≡ max len 1) × (waits o ≡ true))
 loses-is bound len count None e = let t = none-loses (nat_lt len bound) (len + 1) count e in inl (t.0, let is : nat_lt len bound ≡ true = t.1 in let c : count ≡ len + 1 = t.0 in let l : len < bound = grind (arith, nat_tests) in omega arith)
 loses-is bound len count (Some p) e = inr (some-loses (goes_on_there p len) p.last (len + 1) (max len 1) count e, refl)
 
@@ -207,8 +207,8 @@ one-end g bound count scanned past =
       | inr out ↦ absurd (let e : ends (place g.places scanned.len) ≡ false = ap ends (past scanned.len out) in let f : ends (place g.places scanned.len) ≡ true = t.1 in cc)
     ]
 
-first-waits : (g : GatherFacts) (bound : ℕ) (turn : Turn) (scanned : Scanned g.places bound turn) → waits (place g.places scanned.len) ≡ true → waits (place g.places 0) ≡ true
-first-waits g bound turn scanned is = elim (cases_lt 0 scanned.len) [
+first-waits : (g : GatherFacts) (bound : ℕ) (rule : RuleNow) (scanned : Scanned g.places bound rule) → waits (place g.places scanned.len) ≡ true → waits (place g.places 0) ≡ true
+first-waits g bound rule scanned is = elim (cases_lt 0 scanned.len) [
   | inl more ↦ let t = scanned.begun 0 more in ap waits t.1
   | inr none ↦ let e : scanned.len ≡ 0 = omega arith in rw e at is
 ]

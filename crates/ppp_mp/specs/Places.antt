@@ -1,8 +1,8 @@
 -- The places of waiting pieces, counted from the least number that isn't settled.
 use Rattle.std.specs.Prelude.{◌≡◌, ◌<◌, ◌≤◌, ◌==◌, max, nat_lt, not, if◌then◌else◌, Bool, true, false, ℕ, ◌+◌, zero, suc, List, [], ◌++◌, Option, None, Some, slice_index_or}
 use Rattle.ppp_mp.specs.declared.places.WaitingPiece.{WaitingPiece}
-use Rattle.ppp_mp.specs.declared.places.Turn.{Turn}
-use Rattle.ppp_mp.specs.declared.places.Turn.TheVariants.{Rests, Misses, Loses, Completes}
+use Rattle.ppp_mp.specs.declared.places.RuleNow.{RuleNow}
+use Rattle.ppp_mp.specs.declared.places.RuleNow.TheVariants.{Rests, Misses, Loses, Completes}
 
 -- the piece at a place, where one waits there
 abbrev pub place : List (Option WaitingPiece) → ℕ → Option WaitingPiece
@@ -28,17 +28,17 @@ abbrev pub goes_on_there : WaitingPiece → ℕ → Bool
 goes_on_there p len = if len == 0 then p.first else not p.first
 
 -- the rule that applies where so many pieces begin a packet and this stands behind them
-abbrev pub turn_at : (bound len : ℕ) → Option WaitingPiece → Turn
-turn_at bound len None = if nat_lt len bound then Loses (len + 1) else Rests
-turn_at bound len (Some p) = if goes_on_there p len then (if p.last then Completes (len + 1) else Rests) else Loses (max len 1)
+abbrev pub rule_at : (bound len : ℕ) → Option WaitingPiece → RuleNow
+rule_at bound len None = if nat_lt len bound then Loses (len + 1) else Rests
+rule_at bound len (Some p) = if goes_on_there p len then (if p.last then Completes (len + 1) else Rests) else Loses (max len 1)
 
 -- The rule that applies is this.
-pub record Scanned (places : List (Option WaitingPiece)) (bound : ℕ) (turn : Turn) : Type 0 where
+pub record Scanned (places : List (Option WaitingPiece)) (bound : ℕ) (rule : RuleNow) : Type 0 where
   pub len : ℕ
   pub within : len < 129
   pub begun : BegunThere places len
-  pub is : turn_at bound len (place places len) ≡ turn
-  pub rests : turn ≡ Rests → place places len ≡ None
+  pub is : rule_at bound len (place places len) ≡ rule
+  pub rests : rule ≡ Rests → place places len ≡ None
 
 -- The first so many places are empty, and their numbers are below the bound.
 pub record AreMissing (places : List (Option WaitingPiece)) (bound count : ℕ) : Type 0 where
@@ -47,7 +47,7 @@ pub record AreMissing (places : List (Option WaitingPiece)) (bound count : ℕ) 
   pub none : (i : ℕ) → i < count → place places i ≡ None
 
 -- A missing stretch at the front is lost at once. Else one rule applies, or none.
-abbrev pub Found : (places : List (Option WaitingPiece)) (bound : ℕ) → Turn → Type 0
+abbrev pub Found : (places : List (Option WaitingPiece)) (bound : ℕ) → RuleNow → Type 0
 Found places bound Rests = Scanned places bound Rests
 Found places bound (Misses count) = AreMissing places bound count
 Found places bound (Loses count) = Scanned places bound (Loses count)

@@ -1,6 +1,7 @@
 ghost use Rattle.std.specs.Prelude.{◌≡◌, ◌+◌, ◌<◌, ◌≤◌, ◌==◌, ◌%◌, [], ◌∷◌, ◌++◌, length, option_map, slice_get, IsSome, ◌↔◌, IfSome};
 ghost use Rattle.ppp_mp.specs.LongHeader.{long_header, long_space};
 
+use crate::numbers::number_after;
 use arrayvec::ArrayVec;
 use ppp_base::LinkId;
 use std::marker::Model;
@@ -86,21 +87,17 @@ impl Cuts {
         if count <= at {
             return None;
         }
-        Some(long_header(at == 0, at + 1 == count, number_at(number, at)))
+        Some(long_header(
+            at == 0,
+            at + 1 == count,
+            number_after(number, u32::from(at)),
+        ))
     }
-}
-
-// The number of a piece, modulo the number space.
-fn number_at(number: u32, at: u8) -> u32
-    ensures is { result ≡ (number + at) % long_space }
-    ensures within { result < 16777216 }
-{
-    (number % 16_777_216 + u32::from(at)) % 16_777_216
 }
 
 // B, E and a number of three octets.
 fn long_header(first: bool, last: bool, number: u32) -> [u8; 4]
-    requires { number < 16777216 }
+    requires { number < long_space }
     ensures { result ≡ long_header first last number }
 {
     let begins = if first { 128 } else { 0 };

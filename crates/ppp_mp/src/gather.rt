@@ -2,6 +2,7 @@ ghost use Rattle.std.specs.Prelude.{◌≡◌, ◌≢◌, ℕ, ◌+◌, ◌*◌,
 ghost use Rattle.ppp_mp.specs.Delivered.{Entry, Joins, Leaves, Gathering, nothing};
 ghost use Rattle.ppp_mp.specs.LongHeader.{fragment_of, long_space};
 ghost use Rattle.ppp_mp.specs.Moves.{arrived};
+ghost use Rattle.ppp_mp.specs.Whole.{AreInOrder};
 ghost use Rattle.ppp_mp.specs.StandsFor.{StandsFor, Adds, AddsPiece, IsJoined, counted};
 
 use crate::counts::{GatherCounts, PieceNow};
@@ -86,6 +87,7 @@ impl Gather {
         ensures mrru { self.new.mrru ≡ self.old.mrru }
         ensures same { ¬ (IsJoined self.old link) → (self.new ≡ self.old) × (given.new ≡ []) }
         ensures stands { (past : List Entry) (s : Gathering) → StandsFor self.old past s → Adds self.new past s (Leaves link) given.new }
+        ensures whole { (past : List Entry) (s : Gathering) → StandsFor self.new past s → AreInOrder s.kept 0 s.least s.given }
     {
         given.clear();
         let at = usize::from(link.number() - 1);
@@ -105,6 +107,7 @@ impl Gather {
         ensures refused { (result ≡ PieceNow.Stranger) ⊎ (result ≡ PieceNow.BadHeader) → (self.new ≡ self.old) × (given.new ≡ []) }
         ensures stands { (past : List Entry) (s : Gathering) → StandsFor self.old past s → 4 ≤ length information.now
             → AddsPiece self.new past s from (fragment_of information.now) result given.new }
+        ensures whole { (past : List Entry) (s : Gathering) → StandsFor self.new past s → AreInOrder s.kept 0 s.least s.given }
     {
         given.clear();
         let at = usize::from(from.number() - 1);
@@ -142,7 +145,7 @@ fn no_counts() -> GatherCounts
 fn fragment_of(information: &[u8]) -> Option<(u32, WaitingPiece)>
     requires { length information.now ≤ 1508 }
     ensures some { IsSome result ↔ (4 ≤ length information.now) }
-    ensures field { IfSome result (λ found. found.0 < 16777216) }
+    ensures field { IfSome result (λ found. found.0 < long_space) }
     ensures is { IfSome result (λ found. fragment_of information.now ≡ arrived found.0 found.1) }
 {
     let [control, high, middle, low, octets @ ..] = information else {

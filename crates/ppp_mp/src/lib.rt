@@ -18,6 +18,7 @@ mod gather;
 mod given;
 pub mod laws;
 mod members;
+mod numbers;
 mod packet;
 mod places;
 mod sending;

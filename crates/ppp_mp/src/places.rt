@@ -18,7 +18,7 @@ pub(crate) struct WaitingPiece {
 
 // Which rule applies to the first places.
 #[derive(Clone, Copy, Debug, PartialEq, Eq)]
-pub(crate) enum Turn {
+pub(crate) enum RuleNow {
     // None.
     Rests,
     // So many numbers from the least on are missing, and are lost one after another.
@@ -70,7 +70,7 @@ impl Places {
     }
 
     // The rule that applies, with every missing number below the bound to be lost.
-    pub(crate) fn scan(&self, bound: u32) -> Turn
+    pub(crate) fn scan(&self, bound: u32) -> RuleNow
         ensures found { Found self.now bound result }
         ensures past { (i : ℕ) → 128 ≤ i → place self.now i ≡ None }
     {
@@ -80,10 +80,10 @@ impl Places {
                 None => return self.missing(len, bound),
                 Some(piece) => {
                     if piece.first != (len == 0) {
-                        return Turn::Loses(len.max(1));
+                        return RuleNow::Loses(len.max(1));
                     }
                     if piece.last {
-                        return Turn::Completes(len + 1);
+                        return RuleNow::Completes(len + 1);
                     }
                 }
             }
@@ -92,19 +92,19 @@ impl Places {
     }
 
     // The rule for a missing number behind so many pieces that begin a packet.
-    fn missing(&self, len: u32, bound: u32) -> Turn
+    fn missing(&self, len: u32, bound: u32) -> RuleNow
         requires within { len < 129 }
         requires begun { BegunThere self.now len }
         requires none { place self.now len ≡ None }
         ensures { Found self.now bound result }
     {
         if bound <= len {
-            return Turn::Rests;
+            return RuleNow::Rests;
         }
         if len == 0 {
-            return Turn::Misses(self.stretch(bound));
+            return RuleNow::Misses(self.stretch(bound));
         }
-        Turn::Loses(len + 1)
+        RuleNow::Loses(len + 1)
     }
 
     // How many numbers from the least on are missing, at most as many as are below the bound.

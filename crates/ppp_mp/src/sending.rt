@@ -5,6 +5,7 @@ ghost use Rattle.ppp_mp.specs.LongHeader.{long_space};
 use crate::cuts::Cuts;
 use crate::cutting::cut;
 use crate::members::Members;
+use crate::numbers::number_after;
 
 /// What a bundle keeps of the pieces that it has sent.
 #[derive(Clone, Copy, Debug, PartialEq, Eq, Default)]
@@ -36,7 +37,7 @@ impl Sending {
         let cuts = cut(len, members, self.turn);
         let count = cuts.count();
         self.turn = (usize::from(self.turn) % members.len()) as u8 + count;
-        self.number = (self.number % 16_777_216 + u32::from(count)) % 16_777_216;
+        self.number = number_after(self.number, u32::from(count));
         cuts
     }
 }

@@ -1,5 +1,6 @@
 ghost use Rattle.std.specs.Prelude.{◌≡◌, ◌≢◌, ℕ, ◌+◌, ◌-◌, ◌%◌, ◌^◌, ◌<◌, ◌≤◌, List, [], ◌∷◌, ◌++◌, length, min, map, option_map, None, Some, unwrap_or, false, max, slice_set, slice_index_or, ◌==◌, if◌then◌else◌, is_some};
 ghost use Rattle.ppp_mp.specs.Delivered.{lowest, lesser, Gathering, AtRest, mark};
+ghost use Rattle.ppp_mp.specs.LongHeader.{long_space};
 ghost use Rattle.ppp_mp.specs.Places.{place, tally, ends};
 ghost use Rattle.ppp_mp.specs.Moves.{IsMoved, HasSettled, HasSettledNow, HasCompleted, HasTaken, arrived};
 ghost use Rattle.ppp_mp.specs.StandsFor.{KeepsNow};
@@ -7,11 +8,8 @@ ghost use Rattle.ppp_mp.specs.StandsFor.{KeepsNow};
 use crate::counts::PieceNow;
 use crate::facts::GatherFacts;
 use crate::given::Given;
-use crate::places::{Turn, WaitingPiece};
-
-const SPACE: u32 = 16_777_216;
-
-const HALF: u32 = 8_388_608;
+use crate::numbers::{HALF, ahead_of, number_after};
+use crate::places::{RuleNow, WaitingPiece};
 
 impl GatherFacts {
     // A piece with this number, modulo the number space, comes from a member.
@@ -23,7 +21,7 @@ impl GatherFacts {
         given: &mut Given,
     ) -> PieceNow
         requires link { at < 16 }
-        requires field { field < 16777216 }
+        requires field { field < long_space }
         requires empty { given.old ≡ [] }
         requires rest { ends (place self.old.places 0) ≡ false }
         ensures mrru { self.new.mrru ≡ self.old.mrru }
@@ -143,16 +141,16 @@ impl GatherFacts {
         let mut left = bound;
         'rules: loop {
             match self.places.scan(left) {
-                Turn::Rests => return,
-                Turn::Misses(count) => {
+                RuleNow::Rests => return,
+                RuleNow::Misses(count) => {
                     self.lose(count);
                     left = left.saturating_sub(count);
                 }
-                Turn::Loses(count) => {
+                RuleNow::Loses(count) => {
                     self.lose(count);
                     left = left.saturating_sub(count);
                 }
-                Turn::Completes(count) => {
+                RuleNow::Completes(count) => {
                     self.complete(count, given);
                     left = left.saturating_sub(count);
                 }
@@ -174,7 +172,7 @@ impl GatherFacts {
         ensures moved { IsMoved self.old self.new count }
         ensures counts { self.new.counts ≡ self.old.counts }
     {
-        self.base = moved(self.base, count);
+        self.base = number_after(self.base, count);
         self.places.advance(count);
         lessen(&mut self.overs, count);
     }
@@ -191,23 +189,6 @@ impl GatherFacts {
         }
         self.advance(count);
     }
-}
-
-// How far beyond the least number the number of a piece is.
-fn ahead_of(base: u32, field: u32) -> u32
-    requires { (base < 16777216) × (field < 16777216) }
-    ensures within { result < 16777216 }
-    ensures is { (base + result) % 16777216 ≡ field }
-{
-    (field + SPACE - base) % SPACE
-}
-
-fn moved(base: u32, count: u32) -> u32
-    requires { base < 16777216 }
-    ensures moved { result ≡ (base + count) % 16777216 }
-    ensures within { result < 16777216 }
-{
-    (base + count % SPACE) % SPACE
 }
 
 // Each number is less by so many.

@@ -400,57 +400,97 @@ fn next(word: u32) -> u32 {
     word.wrapping_mul(1_664_525).wrapping_add(1_013_904_223)
 }
 
+// A gatherer, and the plain program beside it.
+#[derive(Drop)]
+struct Both {
+    alloc: Global,
+    gather: Gather,
+    given: Given,
+    plain: Plain,
+}
+
+impl Both {
+    fn restart(&mut self, rt: &impl Abort) -> Result<(), AllocError> {
+        self.gather.restart(1500);
+        self.plain = Plain::new(self.alloc);
+        self.leaves(link(rt, 1))
+    }
+
+    fn leaves(&mut self, from: LinkId) -> Result<(), AllocError> {
+        self.gather.leave(from, &mut self.given);
+        self.plain.leave(self.alloc, usize::from(from.number()))
+    }
+
+    fn comes(&mut self, rt: &impl Abort, from: LinkId, piece: Fragment) -> Result<(), AllocError> {
+        let field = piece.number % SPACE;
+        let first = if piece.first { 0x80 } else { 0 };
+        let last = if piece.last { 0x40 } else { 0 };
+        let information = [
+            first + last,
+            (field / 65536) as u8,
+            (field / 256 % 256) as u8,
+            (field % 256) as u8,
+            piece.octet,
+        ];
+        let answer = self.gather.piece(from, &information, &mut self.given);
+        let wanted = self
+            .plain
+            .piece(self.alloc, usize::from(from.number()), piece)?;
+        assert_eq!(rt; answer, wanted, "at {piece:?}");
+        Ok(())
+    }
+
+    // The call that a word picks: of 16 two are joins, one is a leave, and the others are pieces near the least number.
+    fn step(&mut self, rt: &impl Abort, word: u32, far: bool) -> Result<(), AllocError> {
+        let from = link(rt, ((word >> 28) % 3 + 1) as u8);
+        match (word >> 24) % 16 {
+            0 | 1 => {
+                self.gather.join(from);
+                self.plain.join(usize::from(from.number()));
+            }
+            2 => self.leaves(from)?,
+            _ => {
+                let ahead = if far {
+                    (word >> 16) % 300
+                } else {
+                    (word >> 16) % 6
+                };
+                let piece = Fragment {
+                    number: self
+                        .plain
+                        .least
+                        .saturating_add(u64::from(ahead))
+                        .saturating_sub(2),
+                    first: (word >> 10).is_multiple_of(2),
+                    last: (word >> 11).is_multiple_of(2),
+                    octet: ((word >> 8) % 256) as u8,
+                };
+                self.comes(rt, from, piece)?;
+            }
+        }
+        assert!(rt; self.plain.has_given(&self.given), "at {word}");
+        assert_eq!(rt; self.gather.counts(), self.plain.counts, "at {word}");
+        Ok(())
+    }
+}
+
 #[test]
 fn the_plain_program_agrees(rt: HostRuntime) -> Result<(), Fail> {
-    let mut gather = Gather::new(rt.alloc(), 1500)?;
-    let mut given = Given::new(rt.alloc())?;
+    let mut both = Both {
+        alloc: rt.alloc(),
+        gather: Gather::new(rt.alloc(), 1500)?,
+        given: Given::new(rt.alloc())?,
+        plain: Plain::new(rt.alloc()),
+    };
     let mut word = 7;
     let mut packets = 0u32;
-    for history in 0..400u32 {
-        gather.restart(1500);
-        let mut plain = Plain::new(rt.alloc());
-        let span = if history % 4 == 0 { 300 } else { 6 };
-        for step in 0..24u32 {
-            word = next(word);
-            let ahead = plain.least.saturating_add(u64::from((word >> 16) % span));
-            let number = ahead.saturating_sub(SPACE + 2) % 65536;
-            let bits = (word >> 10) % 4 * 64;
-            let at = (word >> 28) % 3 + 1;
-            let from = link(&rt, at as u8);
-            match (word >> 24) % 16 {
-                0 | 1 => {
-                    gather.join(from);
-                    plain.join(at as usize);
-                }
-                2 => {
-                    gather.leave(from, &mut given);
-                    plain.leave(rt.alloc(), at as usize)?;
-                    assert!(rt; plain.has_given(&given), "at {history}, {step}");
-                }
-                _ => {
-                    let octet = (word >> 8) % 256;
-                    let information = [
-                        bits as u8,
-                        0,
-                        (number / 256) as u8,
-                        (number % 256) as u8,
-                        octet as u8,
-                    ];
-                    let answer = gather.piece(from, &information, &mut given);
-                    let piece = Fragment {
-                        number: SPACE + number,
-                        first: bits >= 128,
-                        last: bits % 128 >= 64,
-                        octet: octet as u8,
-                    };
-                    let wanted = plain.piece(rt.alloc(), at as usize, piece)?;
-                    assert_eq!(rt; answer, wanted, "at {history}, {step}");
-                    assert!(rt; plain.has_given(&given), "at {history}, {step}");
-                }
-            }
-            packets = packets.saturating_add(u32::from(given.count()));
-            assert_eq!(rt; gather.counts(), plain.counts, "at {history}, {step}");
+    for step in 0..9600u32 {
+        if step.is_multiple_of(24) {
+            both.restart(&rt)?;
         }
+        word = next(word);
+        both.step(&rt, word, step % 96 < 24)?;
+        packets = packets.saturating_add(u32::from(both.given.count()));
     }
     assert!(rt; 400 < packets, "{packets} packets");
     Ok(())

@@ -1,6 +1,6 @@
 use Rattle.std.proofs.Common.{◌≡◌, ◌-◌, ◌∙◌, ap, sym, None, true, false, is_some, slice_set, slice_index_or}
 use Rattle.ppp_mp.specs.declared.facts.GatherFacts.{GatherFacts}
-use Rattle.ppp_mp.proofs.Calls.{left_stands, stranger_left}
+use Rattle.ppp_mp.proofs.Calls.{whole_now, left_stands, stranger_left}
 use Rattle.ppp_mp.proofs.SettlingLemmas.{room_first}
 use Rattle.ppp_mp.proofs.gather.Gather.leave.Goals as goal
 
@@ -20,3 +20,9 @@ returns-else-is_member-clause-stands c = λ past s stands.
     let at : c.from-at.result ≡ c.args.link - 1 = c.from-at.ensures ∙ ap (λ n. n - 1) c.number.ensures.value in
     let out : is_some (slice_index_or c.self.inside.facts.overs (c.args.link - 1) None) ≡ false = rw (← at) (sym c.is_member.ensures ∙ c.if-is_member.false) in
     stranger_left c.args.self.now c.self.inside.facts c.clear.new.self past s c.args.link c.self.view_is out c.clear.ensures stands
+
+pub returns-then-is_member-clause-whole : goal.returns-then-is_member-clause-whole
+returns-then-is_member-clause-whole c = λ past s stands. whole_now _ past s stands
+
+pub returns-else-is_member-clause-whole : goal.returns-else-is_member-clause-whole
+returns-else-is_member-clause-whole c = λ past s stands. whole_now _ past s stands

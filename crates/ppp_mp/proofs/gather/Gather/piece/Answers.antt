@@ -1,7 +1,7 @@
 use Rattle.std.proofs.Common.{◌≡◌, ◌+◌, ◌-◌, ◌∙◌, ap, sym, None, true, false, is_some, slice_index_or, arith}
 use Rattle.ppp_mp.specs.LongHeader.{fragment_of}
 use Rattle.ppp_mp.specs.Moves.{arrived}
-use Rattle.ppp_mp.proofs.Calls.{piece_stands, stranger_came}
+use Rattle.ppp_mp.proofs.Calls.{whole_now, piece_stands, stranger_came}
 use Rattle.ppp_mp.proofs.gather.Gather.piece.Goals as goal
 
 pub returns-then-not-is_member-clause-stands : goal.returns-then-not-is_member-clause-stands
@@ -18,3 +18,12 @@ returns-in-Some-clause-stands c = λ past s stands long.
     let fragment : fragment_of c.args.information.now ≡ arrived c.in-Some.field c.in-Some.piece = c.in-Some.ensures.is in
     piece_stands c.args.self.now c.self.inside.facts c.take.new.self c.take.new.given past s c.args.from c.from-at.result (fragment_of c.args.information.now) (arrived c.in-Some.field c.in-Some.piece) c.take.result
     c.self.view_is link_is in_it fragment c.take.ensures.mrru c.take.ensures.takes stands
+
+pub returns-then-not-is_member-clause-whole : goal.returns-then-not-is_member-clause-whole
+returns-then-not-is_member-clause-whole c = λ past s stands. whole_now _ past s stands
+
+pub returns-in-None-clause-whole : goal.returns-in-None-clause-whole
+returns-in-None-clause-whole c = λ past s stands. whole_now _ past s stands
+
+pub returns-in-Some-clause-whole : goal.returns-in-Some-clause-whole
+returns-in-Some-clause-whole c = λ past s stands. whole_now _ past s stands
