@@ -95,6 +95,22 @@ impl Cuts {
     }
 }
 
+impl From<ArrayVec<CutPiece, 17>> for Cuts {
+    ghost from_gives = { λ pieces cuts. cuts ≡ pieces.items };
+
+    fn from(pieces: ArrayVec<CutPiece, 17>) -> Cuts {
+        Cuts { pieces }
+    }
+}
+
+impl From<Cuts> for ArrayVec<CutPiece, 17> {
+    ghost from_gives = { λ cuts pieces. pieces.items ≡ cuts };
+
+    fn from(cuts: Cuts) -> ArrayVec<CutPiece, 17> {
+        cuts.pieces
+    }
+}
+
 // B, E and a number of three octets.
 fn long_header(first: bool, last: bool, number: u32) -> [u8; 4]
     requires { number < long_space }

@@ -1,6 +1,6 @@
-ghost use Rattle.std.specs.Prelude.{◌≡◌, ◌<◌, ◌≤◌, [], ◌∷◌, ◌++◌, length, IfOk, option_map, slice_get};
+ghost use Rattle.std.specs.Prelude.{◌≡◌, ◌<◌, ◌≤◌, [], ◌∷◌, ◌++◌, length, IfOk, IfSome, option_map, slice_get};
 
-use crate::packet::Packet;
+use crate::packet::{MOST_PACKET, Packet};
 use ppp_base::NoMemory;
 use std::alloc::Global;
 use std::marker::Model;
@@ -43,7 +43,8 @@ impl Given {
 
     /// The packet at this place. None exactly at the count or above.
     pub fn get(&self, at: u8) -> Option<&[u8]>
-        ensures { option_map (λ x. x.now) result ≡ slice_get self.now at }
+        ensures packet { option_map (λ x. x.now) result ≡ slice_get self.now at }
+        ensures within { IfSome result (λ x. length x.now ≤ MOST_PACKET) }
     {
         match self.packets.as_slice().get(usize::from(at)) {
             Some(packet) => Some(packet.as_slice()),

@@ -32,4 +32,5 @@ pub use cutting::cut;
 pub use gather::Gather;
 pub use given::Given;
 pub use members::{LEAST_MRU, MemberView, Members};
+pub use packet::MOST_PACKET;
 pub use sending::Sending;

@@ -1,4 +1,4 @@
-ghost use Rattle.std.specs.Prelude.{◌≡◌, ◌+◌, ◌<◌, ◌≤◌, ◌↔◌, [], ◌∷◌, ◌++◌, length, IsTrue};
+ghost use Rattle.std.specs.Prelude.{◌≡◌, ◌+◌, ◌<◌, ◌≤◌, ◌↔◌, [], ◌∷◌, ◌++◌, length, IsTrue, IsSome, IfSome};
 ghost use Rattle.std.specs.Bool.{OnTrue, OnFalse};
 ghost use Rattle.ppp_mp.specs.Members.{AreMembers, last_link};
 
@@ -55,6 +55,18 @@ impl Members {
         }
     }
 
+    /// These members. None where a link isn't above the one before it, or a peer takes fewer than 128 octets.
+    pub fn from_views(views: ArrayVec<MemberView, 16>) -> Option<Members>
+        ensures lawful { IsSome result ↔ AreMembers 0 views.items }
+        ensures value { IfSome result (λ members. members ≡ views.items) }
+    {
+        if are_members(views.as_slice()) {
+            Some(Members { members: views })
+        } else {
+            None
+        }
+    }
+
     /// Adds a member at the end. False, and nothing changes, where its link isn't above all others or its peer takes
     /// fewer than 128 octets.
     pub fn add(&mut self, member: MemberView) -> bool
@@ -92,6 +104,31 @@ impl Members {
     {
         self.members.as_slice()
     }
+}
+
+impl From<Members> for ArrayVec<MemberView, 16> {
+    ghost from_gives = { λ members views. views.items ≡ members };
+
+    fn from(members: Members) -> ArrayVec<MemberView, 16> {
+        members.members
+    }
+}
+
+// Whether every link is above the one before it, and each peer takes at least 128 octets.
+fn are_members(views: &[MemberView]) -> bool
+    ensures { IsTrue result ↔ AreMembers 0 views.now }
+{
+    let mut left = views;
+    let mut low = 0;
+    while let [view, rest @ ..] = left {
+        let link = view.link.number();
+        if link <= low || view.mru < LEAST_MRU {
+            return false;
+        }
+        low = link;
+        left = rest;
+    }
+    true
 }
 
 // The greatest link, 0 where there is none.

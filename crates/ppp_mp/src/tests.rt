@@ -65,6 +65,9 @@ fn members_in_link_order(rt: HostRuntime) {
         assert!(rt; !members.add(member), "at {number}");
     }
     assert_eq!(rt; members.len(), 2);
+    let views: ArrayVec<MemberView, 16> = ArrayVec::from(members);
+    let members = Members::from_views(views).expect(&rt, "in link order");
+    assert_eq!(rt; MemberView::default().mru, LEAST_MRU);
     assert!(rt; !members.is_empty() && Members::new().is_empty());
     assert_eq!(rt;
         members.as_slice().last().map(|member| member.mru),
@@ -97,6 +100,9 @@ fn sizes_of_pieces(rt: HostRuntime) {
         let piece = cuts.get(count.saturating_sub(1)).expect(&rt, "as counted");
         assert_eq!(rt; (piece.len, piece.link.number()), (last, to), "at {len}");
         assert!(rt; cuts.get(count).is_none() && cuts.header(count, 0).is_none());
+        let pieces: ArrayVec<CutPiece, 17> = ArrayVec::from(cuts);
+        assert_eq!(rt; Cuts::from(pieces).count(), count);
+        assert_eq!(rt; CutPiece::default().len, 0);
     }
 }
 
