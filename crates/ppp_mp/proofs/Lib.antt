@@ -1,0 +1,13 @@
+pub mod CutLemmas
+pub mod MemberLemmas
+pub mod PlaceLemmas
+pub mod Rests
+pub mod RuleLemmas
+pub mod SettlingLemmas
+pub mod Taking
+pub mod Calls
+pub mod FullNumbers
+pub mod Histories
+pub mod Origins
+pub mod Wholes
+pub mod Once

@@ -1,0 +1,10 @@
+use Rattle.std.proofs.Common.{◌+◌}
+use Rattle.ppp_mp.specs.Places.{tally, waits}
+use Rattle.ppp_mp.proofs.SettlingLemmas.{Settling}
+use Rattle.ppp_mp.proofs.facts.GatherFacts.settle.Given as goal
+
+abbrev pub invariant-rules : goal.invariant-rules
+invariant-rules l = Settling l.initial.self l.initial.given l.bound l.self l.given l.left
+
+abbrev pub decreases-rules : goal.decreases-rules
+decreases-rules l = l.left + tally waits l.self.places 128

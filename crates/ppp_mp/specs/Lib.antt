@@ -1,0 +1,9 @@
+pub mod Brought
+pub mod Cut
+pub mod Delivered
+pub mod LongHeader
+pub mod Members
+pub mod Moves
+pub mod Places
+pub mod StandsFor
+pub mod Whole

@@ -1,0 +1,161 @@
+ghost use Rattle.std.specs.Prelude.{◌≡◌, ◌≢◌, ℕ, ◌+◌, ◌*◌, ◌<◌, ◌≤◌, ◌↔◌, ◌⊎◌, List, [], length, IfOk, IsSome, IfSome};
+ghost use Rattle.ppp_mp.specs.Delivered.{Entry, Joins, Leaves, Gathering, nothing};
+ghost use Rattle.ppp_mp.specs.LongHeader.{fragment_of, long_space};
+ghost use Rattle.ppp_mp.specs.Moves.{arrived};
+ghost use Rattle.ppp_mp.specs.Whole.{AreInOrder};
+ghost use Rattle.ppp_mp.specs.StandsFor.{StandsFor, Adds, AddsPiece, IsJoined, counted};
+
+use crate::counts::{GatherCounts, PieceNow};
+use crate::facts::GatherFacts;
+use crate::given::Given;
+use crate::places::{Places, WaitingPiece};
+use ppp_base::{Frame, LinkId, NoMemory};
+use std::alloc::Global;
+use std::marker::Model;
+
+/// Gathers the pieces that the members of a bundle bring, and gives whole packets in the order of their numbers.
+///
+/// Of what has reached the bundle it keeps the pieces that wait, for at most 128 numbers from the least on that isn't
+/// settled, and how far each member has come.
+#[derive(Drop)]
+pub struct Gather {
+    facts: GatherFacts,
+}
+
+impl Model for Gather {
+    ghost use Rattle.std.specs.Prelude.{◌≡◌, false};
+    ghost use Rattle.ppp_mp.specs.declared.facts.GatherFacts.{GatherFacts};
+    ghost use Rattle.ppp_mp.specs.Places.{place, ends};
+
+    ghost Value = { GatherFacts };
+
+    ghost view = { λ g. g.facts };
+
+    ghost invariant = { λ g. ends (place g.facts.places 0) ≡ false };
+}
+
+impl Gather {
+    /// Nothing has come, no link is a member, and number 0 is expected. `mrru` is ours. All memory that is ever needed
+    /// is taken here.
+    pub fn new(alloc: Global, mrru: u16) -> Result<Gather, NoMemory>
+        requires { (1500 ≤ mrru) × (mrru ≤ 2048) }
+        ensures stands { IfOk result (λ g. StandsFor g [] (nothing long_space)) }
+        ensures mrru { IfOk result (λ g. g.mrru ≡ mrru) }
+    {
+        match Places::new(alloc) {
+            Ok(places) => Ok(Gather {
+                facts: GatherFacts {
+                    mrru,
+                    base: 0,
+                    places,
+                    overs: [None; 16],
+                    counts: no_counts(),
+                },
+            }),
+            Err(_) => Err(NoMemory),
+        }
+    }
+
+    /// Forgets members, pieces and counts, takes this MRRU as ours, and expects number 0.
+    pub fn restart(&mut self, mrru: u16)
+        requires { (1500 ≤ mrru) × (mrru ≤ 2048) }
+        ensures stands { StandsFor self.new [] (nothing long_space) }
+        ensures mrru { self.new.mrru ≡ mrru }
+    {
+        self.facts.mrru = mrru;
+        self.facts.base = 0;
+        self.facts.places.clear();
+        self.facts.overs = [None; 16];
+        self.facts.counts = no_counts();
+    }
+
+    /// A link joins. It counts as having brought the number before the least that isn't settled. A member stays as it
+    /// is.
+    pub fn join(&mut self, link: LinkId)
+        ensures mrru { self.new.mrru ≡ self.old.mrru }
+        ensures same { IsJoined self.old link → self.new ≡ self.old }
+        ensures stands { (past : List Entry) (s : Gathering) → StandsFor self.old past s → Adds self.new past s (Joins link) [] }
+    {
+        let at = usize::from(link.number() - 1);
+        if !self.facts.is_member(at) {
+            self.facts.enter(at);
+        }
+    }
+
+    /// A link leaves, which may let packets through that waited for it. Where it is no member, nothing changes.
+    pub fn leave(&mut self, link: LinkId, given: &mut Given)
+        ensures mrru { self.new.mrru ≡ self.old.mrru }
+        ensures same { ¬ (IsJoined self.old link) → (self.new ≡ self.old) × (given.new ≡ []) }
+        ensures stands { (past : List Entry) (s : Gathering) → StandsFor self.old past s → Adds self.new past s (Leaves link) given.new }
+        ensures whole { (past : List Entry) (s : Gathering) → StandsFor self.new past s → AreInOrder s.kept 0 s.least s.given }
+    {
+        given.clear();
+        let at = usize::from(link.number() - 1);
+        if self.facts.is_member(at) {
+            self.facts.drop_out(at);
+            self.facts.settle_now(given);
+        }
+    }
+
+    /// A piece comes: its long header (RFC 1990, section 3) and its octets. The packets that it completes or lets
+    /// through are given.
+    pub fn piece(&mut self, from: LinkId, information: &[u8], given: &mut Given) -> PieceNow
+        requires { length information.now ≤ 1508 }
+        ensures mrru { self.new.mrru ≡ self.old.mrru }
+        ensures stranger { (result ≡ PieceNow.Stranger) ↔ ¬ (IsJoined self.old from) }
+        ensures bad_header { (result ≡ PieceNow.BadHeader) ↔ (IsJoined self.old from × (length information.now < 4)) }
+        ensures refused { (result ≡ PieceNow.Stranger) ⊎ (result ≡ PieceNow.BadHeader) → (self.new ≡ self.old) × (given.new ≡ []) }
+        ensures stands { (past : List Entry) (s : Gathering) → StandsFor self.old past s → 4 ≤ length information.now
+            → AddsPiece self.new past s from (fragment_of information.now) result given.new }
+        ensures whole { (past : List Entry) (s : Gathering) → StandsFor self.new past s → AreInOrder s.kept 0 s.least s.given }
+    {
+        given.clear();
+        let at = usize::from(from.number() - 1);
+        if !self.facts.is_member(at) {
+            return PieceNow::Stranger;
+        }
+        match fragment_of(information) {
+            None => PieceNow::BadHeader,
+            Some((field, piece)) => self.facts.take(at, field, piece, given),
+        }
+    }
+
+    /// What was thrown away since the gatherer was made or restarted.
+    pub fn counts(&self) -> GatherCounts
+        ensures value { result ≡ self.now.counts }
+        ensures delivered { (past : List Entry) (s : Gathering) → StandsFor self.now past s → result ≡ counted s }
+    {
+        self.facts.counts
+    }
+}
+
+// Nothing was thrown away.
+fn no_counts() -> GatherCounts
+    ensures { result ≡ record { old = 0; doubled = 0; lost = 0; too_long = 0 } }
+{
+    GatherCounts {
+        old: 0,
+        doubled: 0,
+        lost: 0,
+        too_long: 0,
+    }
+}
+
+// The number of a piece and what stands behind its header. None under four octets.
+fn fragment_of(information: &[u8]) -> Option<(u32, WaitingPiece)>
+    requires { length information.now ≤ 1508 }
+    ensures some { IsSome result ↔ (4 ≤ length information.now) }
+    ensures field { IfSome result (λ found. found.0 < long_space) }
+    ensures is { IfSome result (λ found. fragment_of information.now ≡ arrived found.0 found.1) }
+{
+    let [control, high, middle, low, octets @ ..] = information else {
+        return None;
+    };
+    let piece = WaitingPiece {
+        first: *control > 127,
+        last: *control / 64 % 2 == 1,
+        octets: Frame::from_octets(octets)?,
+    };
+    let field = u32::from(*high) * 65536 + u32::from(*middle) * 256 + u32::from(*low);
+    Some((field, piece))
+}

@@ -1,0 +1,226 @@
+ghost use Rattle.std.specs.Prelude.{◌≡◌, ◌≢◌, ℕ, ◌+◌, ◌-◌, ◌%◌, ◌^◌, ◌<◌, ◌≤◌, List, [], ◌∷◌, ◌++◌, length, min, map, option_map, None, Some, unwrap_or, false, max, slice_set, slice_index_or, ◌==◌, if◌then◌else◌, is_some};
+ghost use Rattle.ppp_mp.specs.Delivered.{lowest, lesser, Gathering, AtRest, mark};
+ghost use Rattle.ppp_mp.specs.LongHeader.{long_space};
+ghost use Rattle.ppp_mp.specs.Places.{place, tally, ends};
+ghost use Rattle.ppp_mp.specs.Moves.{IsMoved, HasSettled, HasSettledNow, HasCompleted, HasTaken, arrived};
+ghost use Rattle.ppp_mp.specs.StandsFor.{KeepsNow};
+
+use crate::counts::PieceNow;
+use crate::facts::GatherFacts;
+use crate::given::Given;
+use crate::numbers::{HALF, ahead_of, number_after};
+use crate::places::{RuleNow, WaitingPiece};
+
+impl GatherFacts {
+    // A piece with this number, modulo the number space, comes from a member.
+    pub(crate) fn take(
+        &mut self,
+        at: usize,
+        field: u32,
+        piece: WaitingPiece,
+        given: &mut Given,
+    ) -> PieceNow
+        requires link { at < 16 }
+        requires field { field < long_space }
+        requires empty { given.old ≡ [] }
+        requires rest { ends (place self.old.places 0) ≡ false }
+        ensures mrru { self.new.mrru ≡ self.old.mrru }
+        ensures rest { ends (place self.new.places 0) ≡ false }
+        ensures other { (result ≢ PieceNow.Stranger) × (result ≢ PieceNow.BadHeader) }
+        ensures takes { (s : Gathering) → KeepsNow self.old s → AtRest self.old.mrru (mark s) s
+            → HasTaken self.old.mrru s (at + 1) (arrived field piece) result self.new given.new }
+    {
+        let ahead = ahead_of(self.base, field);
+        if HALF <= ahead {
+            self.bring(at, 0);
+            self.count_old();
+            self.settle_now(given);
+            return PieceNow::Old;
+        }
+        if self.places.at(ahead).is_some() {
+            self.bring(at, ahead);
+            self.count_doubled();
+            self.settle_now(given);
+            return PieceNow::Doubled;
+        }
+        let bound = self.bound().max(ahead.saturating_sub(127));
+        self.settle(bound, given);
+        let left = ahead_of(self.base, field);
+        let far = left.saturating_sub(127);
+        self.lose(far);
+        self.keep(left - far, piece);
+        self.bring(at, left - far);
+        self.settle_now(given);
+        PieceNow::Kept
+    }
+
+    // Whether the link at this position is a member.
+    pub(crate) fn is_member(&self, at: usize) -> bool
+        requires { at < 16 }
+        ensures { result ≡ is_some (slice_index_or self.now.overs at None) }
+    {
+        self.overs[at].is_some()
+    }
+
+    // The link at this position becomes a member.
+    pub(crate) fn enter(&mut self, at: usize)
+        requires { at < 16 }
+        ensures { self.new ≡ record self.old { overs = slice_set self.old.overs at (Some 0) } }
+    {
+        self.overs[at] = Some(0);
+    }
+
+    // The link at this position is no member any more.
+    pub(crate) fn drop_out(&mut self, at: usize)
+        requires { at < 16 }
+        ensures { self.new ≡ record self.old { overs = slice_set self.old.overs at None } }
+    {
+        self.overs[at] = None;
+    }
+
+    fn count_old(&mut self)
+        ensures { self.new ≡ record self.old { counts = record self.old.counts { old = min (self.old.counts.old + 1) (2 ^ 64 - 1) } } }
+    {
+        self.counts.old = self.counts.old.saturating_add(1);
+    }
+
+    fn count_doubled(&mut self)
+        ensures { self.new ≡ record self.old { counts = record self.old.counts { doubled = min (self.old.counts.doubled + 1) (2 ^ 64 - 1) } } }
+    {
+        self.counts.doubled = self.counts.doubled.saturating_add(1);
+    }
+
+    // A piece begins to wait.
+    fn keep(&mut self, i: u32, piece: WaitingPiece)
+        requires { i < 128 }
+        ensures places { (j : ℕ) → place self.new.places j ≡ (if j == i then Some piece else place self.old.places j) }
+        ensures mrru { self.new.mrru ≡ self.old.mrru }
+        ensures base { self.new.base ≡ self.old.base }
+        ensures overs { self.new.overs ≡ self.old.overs }
+        ensures counts { self.new.counts ≡ self.old.counts }
+    {
+        self.places.put(i, piece);
+    }
+
+    // Applies the rules with M as it is.
+    pub(crate) fn settle_now(&mut self, given: &mut Given)
+        requires { length given.old + tally ends self.old.places 128 ≤ 128 }
+        ensures mrru { self.new.mrru ≡ self.old.mrru }
+        ensures rest { ends (place self.new.places 0) ≡ false }
+        ensures settled { HasSettledNow self.old self.new given.old given.new }
+    {
+        let bound = self.bound();
+        self.settle(bound, given);
+    }
+
+    // The member has brought a piece so far beyond the least number.
+    fn bring(&mut self, at: usize, ahead: u32)
+        requires { at < 16 }
+        ensures { self.new ≡ record self.old { overs = slice_set self.old.overs at (Some (max ahead (unwrap_or (slice_index_or self.old.overs at None) 0))) } }
+    {
+        let over = self.overs[at].unwrap_or(0);
+        self.overs[at] = Some(ahead.max(over));
+    }
+
+    // How far beyond the least number missing numbers are lost.
+    fn bound(&self) -> u32
+        ensures { result ≡ unwrap_or (lowest self.now.overs) 0 }
+    {
+        lowest(&self.overs).unwrap_or(0)
+    }
+
+    // Applies the rules until none does. A missing stretch is lost at once.
+    fn settle(&mut self, bound: u32, given: &mut Given)
+        requires { length given.old + tally ends self.old.places 128 ≤ 128 }
+        ensures past { (i : ℕ) → 128 ≤ i → place self.new.places i ≡ None }
+        ensures mrru { self.new.mrru ≡ self.old.mrru }
+        ensures room { length given.new + tally ends self.new.places 128 ≤ length given.old + tally ends self.old.places 128 }
+        ensures rest { ends (place self.new.places 0) ≡ false }
+        ensures settled { HasSettled bound self.old self.new given.old given.new }
+    {
+        let mut left = bound;
+        'rules: loop {
+            match self.places.scan(left) {
+                RuleNow::Rests => return,
+                RuleNow::Misses(count) => {
+                    self.lose(count);
+                    left = left.saturating_sub(count);
+                }
+                RuleNow::Loses(count) => {
+                    self.lose(count);
+                    left = left.saturating_sub(count);
+                }
+                RuleNow::Completes(count) => {
+                    self.complete(count, given);
+                    left = left.saturating_sub(count);
+                }
+            }
+        }
+    }
+
+    // So many numbers are lost.
+    fn lose(&mut self, count: u32)
+        ensures moved { IsMoved self.old self.new count }
+        ensures counts { self.new.counts ≡ record self.old.counts { lost = min (self.old.counts.lost + count) (2 ^ 64 - 1) } }
+    {
+        self.advance(count);
+        self.counts.lost = self.counts.lost.saturating_add(u64::from(count));
+    }
+
+    // So many numbers are settled.
+    fn advance(&mut self, count: u32)
+        ensures moved { IsMoved self.old self.new count }
+        ensures counts { self.new.counts ≡ self.old.counts }
+    {
+        self.base = number_after(self.base, count);
+        self.places.advance(count);
+        lessen(&mut self.overs, count);
+    }
+
+    // So many pieces are given as a packet, or counted as too long.
+    fn complete(&mut self, count: u32, given: &mut Given)
+        requires room { length given.old < 128 }
+        ensures moved { IsMoved self.old self.new count }
+        ensures packet { HasCompleted self.old self.new count given.old given.new }
+    {
+        match self.places.join(count, usize::from(self.mrru) + 2) {
+            Some(packet) => given.push(packet),
+            None => self.counts.too_long = self.counts.too_long.saturating_add(1),
+        }
+        self.advance(count);
+    }
+}
+
+// Each number is less by so many.
+fn lessen(overs: &mut [Option<u32>; 16], count: u32)
+    ensures { overs.new ≡ map (option_map (λ n. n - count)) overs.old }
+{
+    for i in 0..16usize {
+        overs[i] = less(overs[i], count);
+    }
+}
+
+fn less(over: Option<u32>, count: u32) -> Option<u32>
+    ensures { result ≡ option_map (λ n. n - count) over }
+{
+    over.map(|n| n.saturating_sub(count))
+}
+
+// The least of the numbers.
+fn lowest(overs: &[Option<u32>]) -> Option<u32>
+    ensures { result ≡ lowest overs.now }
+{
+    overs.iter().fold(None, |least, over| lesser(least, *over))
+}
+
+fn lesser(least: Option<u32>, over: Option<u32>) -> Option<u32>
+    ensures { result ≡ lesser least over }
+{
+    match least {
+        None => over,
+        Some(n) => match over {
+            None => Some(n),
+            Some(m) => Some(n.min(m)),
+        },
+    }
+}
