@@ -1,4 +1,5 @@
 pub mod CutLemmas
+pub mod CutLaws
 pub mod MemberLemmas
 pub mod PlaceLemmas
 pub mod Rests

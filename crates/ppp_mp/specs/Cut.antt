@@ -1,6 +1,6 @@
 -- How a packet is cut over the members of a bundle (RFC 1990, section 4: B at the first piece, E at the last; the sizes
 -- and the order of the members are this project's own).
-use Rattle.std.specs.Prelude.{◌≡◌, ℕ, ◌+◌, ◌-◌, ◌*◌, ◌/◌, ◌%◌, ◌<◌, ◌≤◌, ◌==◌, ◌||◌, min, nat_lt, not, if◌then◌else◌, List, length, slice_index_or}
+use Rattle.std.specs.Prelude.{◌≡◌, ℕ, ◌+◌, ◌-◌, ◌*◌, ◌/◌, ◌%◌, ◌<◌, ◌≤◌, ◌==◌, ◌||◌, min, nat_lt, not, if◌then◌else◌, List, [], ◌∷◌, ◌++◌, length, take, drop, slice_index_or}
 use Rattle.std.specs.List.{fold}
 use Rattle.ppp_mp.specs.declared.members.MemberView.{MemberView}
 use Rattle.ppp_mp.specs.declared.cuts.CutPiece.{CutPiece}
@@ -29,3 +29,8 @@ pub record Cut (len : ℕ) (members : List MemberView) (turn : ℕ) (pieces : Li
   pub each : (j : ℕ) → j < length pieces → (other : CutPiece) → IsPiece len members turn (piece_size len members) j (slice_index_or pieces j other)
   pub ends : len ≤ length pieces * piece_size len members
   pub none_empty : (length pieces - 1) * piece_size len members < len
+
+-- the octets of the pieces of a packet, joined
+abbrev pub joined_pieces : (packet : List ℕ) → List CutPiece → List ℕ
+joined_pieces packet [] = []
+joined_pieces packet (piece ∷ pieces) = take piece.len (drop piece.place packet) ++ joined_pieces packet pieces

@@ -1,11 +1,24 @@
 //! Laws of the definitions that the contracts cite, each proved of a function that does nothing.
 
-ghost use Rattle.std.specs.Prelude.{◌≡◌, ℕ, ◌*◌, ◌<◌, List};
+ghost use Rattle.std.specs.Prelude.{◌≡◌, ℕ, ◌+◌, ◌*◌, ◌<◌, ◌≤◌, List, length, slice_get, Some};
 ghost use Rattle.std.specs.List.{AllByRecursion};
 ghost use Rattle.ppp_mp.specs.Brought.{IsBrought};
 ghost use Rattle.ppp_mp.specs.Whole.{AreInOrder};
+ghost use Rattle.ppp_mp.specs.Cut.{Cut, joined_pieces};
+ghost use Rattle.ppp_mp.specs.Members.{AreMembers};
+ghost use Rattle.ppp_mp.specs.declared.cuts.CutPiece.{CutPiece};
+ghost use Rattle.ppp_mp.specs.declared.members.MemberView.{MemberView};
 ghost use Rattle.ppp_mp.specs.Delivered.{Entry, Gathering, Fragment, Delivered, Rule, Settles, Takes};
 ghost use Rattle.ppp_mp.specs.declared.counts.PieceNow.{PieceNow};
+
+/// The pieces of a cut, joined, are the packet. Each has an octet at least, and fits behind a header of four octets into
+/// what the peer of any member takes.
+pub fn pieces_are_the_packet()
+    ensures joined { (packet : List ℕ) (members : List MemberView) (turn : ℕ) (pieces : List CutPiece) → Cut (length packet) members turn pieces → joined_pieces packet pieces ≡ packet }
+    ensures fits { (len turn : ℕ) (members : List MemberView) (pieces : List CutPiece) → AreMembers 0 members → Cut len members turn pieces
+        → (j i : ℕ) (piece : CutPiece) (member : MemberView) → slice_get pieces j ≡ Some piece → slice_get members i ≡ Some member
+        → (0 < piece.len) × (piece.len + 4 ≤ member.mru) }
+{}
 
 /// Whatever has reached a bundle, the packets that were given are whole and in the order of their numbers, and no number
 /// is in two of them. Each is the joined octets of pieces that were kept, with consecutive full numbers, B at the first
