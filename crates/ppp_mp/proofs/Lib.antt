@@ -11,3 +11,4 @@ pub mod Histories
 pub mod Origins
 pub mod Wholes
 pub mod Once
+pub mod MemberOrigins
