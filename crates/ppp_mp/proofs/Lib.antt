@@ -12,3 +12,4 @@ pub mod Histories
 pub mod Origins
 pub mod Wholes
 pub mod Once
+pub mod MemberOrigins

@@ -1,11 +1,12 @@
 -- Each piece that was kept was brought by an entry.
 use Rattle.std.proofs.Common.{◌≡◌, ℕ, ◌+◌, ◌-◌, max, List, [], ◌∷◌, None, Some, is_some, cond, Bool, true, false, slice_set, slice_index_or, refl, sym, ap, subst, inl, inr, ◌∙◌}
 use Rattle.std.specs.List.{AllByRecursion}
-use Rattle.ppp_mp.specs.Brought.{IsOf, IsBrought}
+use Rattle.ppp_mp.specs.Brought.{IsOf, IsLink, IsBrought, is_member_in}
 use Rattle.ppp_mp.specs.Delivered.{Gathering, Entry, Joins, Leaves, Comes, Delivered, Takes, Left, Keeps, Answered, IsFull, Settles, brings, leaves, keeps_piece, loses, mark, numbered}
 use Rattle.ppp_mp.specs.Whole.{Piece}
 use Rattle.ppp_mp.specs.declared.counts.PieceNow.{PieceNow}
 use Rattle.ppp_mp.specs.declared.counts.PieceNow.TheVariants.{Kept, Old, Doubled, Stranger, BadHeader}
+use Rattle.ppp_mp.proofs.MemberOrigins.{member_back}
 use Rattle.ppp_mp.proofs.Rests.{Stays, rules_stay, member_cases}
 
 all_weaker : (P Q : Piece → Type 0) (kept : List Piece) → ((p : Piece) → P p → Q p) → AllByRecursion P kept → AllByRecursion Q kept
@@ -36,20 +37,20 @@ joins_kept : (P : Piece → Type 0) (s : Gathering) (link : ℕ) (b : Bool) → 
 joins_kept P s link true all = all
 joins_kept P s link false all = all
 
-pub kept_brought : (space mrru : ℕ) (past : List Entry) (s : Gathering) → Delivered space mrru past s → AllByRecursion (IsBrought space past) s.kept
-kept_brought space mrru [] s d = subst (λ (x : Gathering). AllByRecursion (IsBrought space []) x.kept) (sym d) tt
-kept_brought space mrru (Joins link ∷ past) s d =
-    let all : AllByRecursion (IsBrought space past) d.0.kept = kept_brought space mrru past d.0 d.1 in
+pub kept_brought : (space mrru : ℕ) (past : List Entry) (s : Gathering) → AllByRecursion IsLink past → Delivered space mrru past s → AllByRecursion (IsBrought space past) s.kept
+kept_brought space mrru [] s links d = subst (λ (x : Gathering). AllByRecursion (IsBrought space []) x.kept) (sym d) tt
+kept_brought space mrru (Joins link ∷ past) s links d =
+    let all : AllByRecursion (IsBrought space past) d.0.kept = kept_brought space mrru past d.0 links.1 d.1 in
     subst (λ (x : Gathering). AllByRecursion (IsBrought space past) x.kept) (sym d.2) (joins_kept (IsBrought space past) d.0 link (is_some (slice_index_or d.0.brought (link - 1) None)) all)
-kept_brought space mrru (Leaves link ∷ past) s d =
-    let all : AllByRecursion (IsBrought space past) d.0.kept = kept_brought space mrru past d.0 d.1 in
+kept_brought space mrru (Leaves link ∷ past) s links d =
+    let all : AllByRecursion (IsBrought space past) d.0.kept = kept_brought space mrru past d.0 links.1 d.1 in
     let left : Left mrru d.0 link s = d.2 in
     elim (member_cases (slice_index_or d.0.brought (link - 1) None)) [
       | inl member ↦ subst (λ (k : List Piece). AllByRecursion (IsBrought space past) k) (sym (settles_kept mrru (mark (leaves d.0 link)) (leaves d.0 link) s (left.member member))) all
       | inr out ↦ subst (λ (x : Gathering). AllByRecursion (IsBrought space past) x.kept) (sym (left.stranger out)) all
     ]
-kept_brought space mrru (Comes link fragment ∷ past) s d =
-    let all : AllByRecursion (IsBrought space past) d.0.kept = kept_brought space mrru past d.0 d.1 in
+kept_brought space mrru (Comes link fragment ∷ past) s links d =
+    let all : AllByRecursion (IsBrought space past) d.0.kept = kept_brought space mrru past d.0 links.1 d.1 in
     let P = λ (p : Piece). IsBrought space (Comes link fragment ∷ past) p in
     let more : AllByRecursion (IsBrought space (Comes link fragment ∷ past)) d.0.kept = all_weaker (IsBrought space past) (IsBrought space (Comes link fragment ∷ past)) d.0.kept (λ p h. inr h) all in
     let takes : Takes space mrru d.0 link fragment d.2 s = d.3 in
@@ -58,6 +59,7 @@ kept_brought space mrru (Comes link fragment ∷ past) s d =
           let of = takes.member member in
           let full : IsFull space d.0.least fragment.field of.number = of.full in
           let here : IsOf space fragment (numbered of.number fragment) = record { number = full.same; begins = refl; ends = refl; same = refl } in
-          answered_kept (IsBrought space (Comes link fragment ∷ past)) mrru d.0 s link (numbered of.number fragment) d.2 of.answered (inl here) more
+          let from_member : is_member_in link past ≡ true = member_back space mrru past d.0 link links.1 links.0 d.1 member in
+          answered_kept (IsBrought space (Comes link fragment ∷ past)) mrru d.0 s link (numbered of.number fragment) d.2 of.answered (inl (from_member, here)) more
       | inr out ↦ subst (λ (x : Gathering). AllByRecursion (IsBrought space (Comes link fragment ∷ past)) x.kept) (sym (takes.stranger out).1) more
     ]

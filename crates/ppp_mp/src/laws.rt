@@ -2,7 +2,7 @@
 
 ghost use Rattle.std.specs.Prelude.{◌≡◌, ℕ, ◌+◌, ◌*◌, ◌<◌, ◌≤◌, List, length, slice_get, Some};
 ghost use Rattle.std.specs.List.{AllByRecursion};
-ghost use Rattle.ppp_mp.specs.Brought.{IsBrought};
+ghost use Rattle.ppp_mp.specs.Brought.{IsLink, IsBrought};
 ghost use Rattle.ppp_mp.specs.Whole.{AreInOrder};
 ghost use Rattle.ppp_mp.specs.Cut.{Cut, joined_pieces};
 ghost use Rattle.ppp_mp.specs.Members.{AreMembers};
@@ -22,10 +22,10 @@ pub fn pieces_are_the_packet()
 
 /// Whatever has reached a bundle, the packets that were given are whole and in the order of their numbers, and no number
 /// is in two of them. Each is the joined octets of pieces that were kept, with consecutive full numbers, B at the first
-/// alone and E at the last alone, and each piece that was kept had come.
+/// alone and E at the last alone, and each piece that was kept had come from a link that was a member then.
 pub fn packets_are_whole()
     ensures whole { (space mrru : ℕ) (past : List Entry) (s : Gathering) → Delivered space mrru past s → AreInOrder s.kept 0 s.least s.given }
-    ensures brought { (space mrru : ℕ) (past : List Entry) (s : Gathering) → Delivered space mrru past s → AllByRecursion (IsBrought space past) s.kept }
+    ensures brought { (space mrru : ℕ) (past : List Entry) (s : Gathering) → AllByRecursion IsLink past → Delivered space mrru past s → AllByRecursion (IsBrought space past) s.kept }
 {}
 
 /// At most one rule applies at a time, so what the rules lead to is one.
