@@ -6,3 +6,4 @@ pub mod Hearing
 pub mod Reading
 pub mod PartsRead
 pub mod Numbers
+pub mod Ended

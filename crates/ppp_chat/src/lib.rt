@@ -12,6 +12,7 @@ mod directives;
 mod ending;
 mod event;
 mod fault;
+mod laws;
 mod now;
 mod octets;
 mod parts;
@@ -30,6 +31,7 @@ mod word;
 
 pub use chat::Chat;
 pub use fault::ScriptFault;
+pub use laws::{a_busy_line, a_late_string, an_end_stays};
 pub use now::{ChatEnd, ChatNow};
 pub use octets::{MOST_SENT, SentOctets};
 pub use script::Script;
