@@ -7,3 +7,4 @@ pub mod Reading
 pub mod PartsRead
 pub mod Numbers
 pub mod Ended
+pub mod Obeyed

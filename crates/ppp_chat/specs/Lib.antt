@@ -8,3 +8,4 @@ pub mod Hearing
 pub mod Pieces
 pub mod Words
 pub mod Reading
+pub mod Obeyed

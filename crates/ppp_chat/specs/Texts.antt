@@ -1,5 +1,5 @@
 -- What the machine keeps in short: the abort strings by the places of their steps.
-use Rattle.std.specs.Prelude.{ℕ, ◌-◌, ◌≤◌, Option, Some, List, [], map, length, drop, slice_get}
+use Rattle.std.specs.Prelude.{ℕ, ◌-◌, ◌<◌, ◌≤◌, Option, Some, List, [], map, length, drop, slice_get}
 use Rattle.std.specs.List.{AllByRecursion}
 use Rattle.ppp_chat.specs.ChatOf.{Settings}
 use Rattle.ppp_chat.specs.declared.directives.Directives.{Directives}
@@ -18,6 +18,10 @@ abort_at steps place = abort_of (slice_get steps place)
 -- what the directives have set, in a script with these steps
 abbrev pub settings_of : List Step → Directives → Settings
 settings_of steps d = record { aborts = map (abort_at steps) d.aborts.items; timeout = d.timeout_ms }
+
+-- each place is below this one
+abbrev pub AreBelow : ℕ → List ℕ → Type 0
+AreBelow end places = AllByRecursion (λ (place : ℕ). place < end) places
 
 -- no string is longer than the window
 abbrev pub IsShort : Step → Type 0

@@ -1,4 +1,4 @@
-ghost use Rattle.std.specs.Prelude.{◌≡◌, ◌<◌, ℕ, Bool, [], ◌∷◌, ◌++◌, List, Some, None, IsTrue, OnSome, drop, length};
+ghost use Rattle.std.specs.Prelude.{◌≡◌, Bool, [], ◌∷◌, ◌++◌, List, Some, drop};
 ghost use Rattle.ppp_chat.specs.ChatOf.{course, is_last_part, first_settings};
 ghost use Rattle.ppp_chat.specs.ChatState.{ChatState, IsBegun, StandsFor, Answers, after_late, rest_of, outcome_of, sent_by, answer, answer_for};
 ghost use Rattle.ppp_chat.specs.Event.{Event, tick_at, octet_at};
@@ -82,7 +82,8 @@ fn answer(sent: SentOctets, stage: Stage) -> ChatNow
 impl Chat {
     /// A conversation that is to be begun.
     pub fn new(script: Script) -> Chat
-        ensures { result.script ≡ script }
+        ensures script { result.script ≡ script }
+        ensures stage { result.stage ≡ Stage.NotBegun }
     {
         let directives = Directives::new(script.timeout_s());
         Chat {

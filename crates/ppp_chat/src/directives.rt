@@ -1,7 +1,7 @@
 ghost use Rattle.std.specs.Prelude.{◌≡◌, ℕ, ◌*◌, ◌<◌, ◌≤◌, [], ◌∷◌, List, Some, slice_get, IfSome};
 ghost use Rattle.ppp_chat.specs.ChatOf.{with_abort, without_abort, with_timeout};
 ghost use Rattle.ppp_chat.specs.Ending.{abort_found, is_found};
-ghost use Rattle.ppp_chat.specs.Texts.{abort_at, settings_of};
+ghost use Rattle.ppp_chat.specs.Texts.{AreBelow, abort_at, settings_of};
 ghost use Rattle.ppp_chat.specs.Words.{directed};
 ghost use Rattle.std.specs.List.{position};
 ghost use Rattle.ppp_chat.specs.declared.step.Step.{Step};
@@ -34,7 +34,8 @@ fn abort_at(steps: &[Step], place: usize) -> &[u8]
 impl Directives {
     /// Before any directive.
     pub fn new(timeout_s: u32) -> Directives
-        ensures { (steps : List Step) → settings_of steps result ≡ record { aborts = []; timeout = timeout_s * 1000 } }
+        ensures settings { (steps : List Step) → settings_of steps result ≡ record { aborts = []; timeout = timeout_s * 1000 } }
+        ensures none { result.aborts.items ≡ [] }
     {
         Directives {
             aborts: ArrayVec::new(),
@@ -44,7 +45,8 @@ impl Directives {
 
     /// The step at this place sets an abort string.
     pub fn set_abort(&mut self, place: usize)
-        ensures { (steps : List Step) → settings_of steps self.new ≡ with_abort (abort_at steps place) (settings_of steps self.old) }
+        ensures set { (steps : List Step) → settings_of steps self.new ≡ with_abort (abort_at steps place) (settings_of steps self.old) }
+        ensures below { (end : ℕ) → place < end → AreBelow end self.old.aborts.items → AreBelow end self.new.aborts.items }
     {
         if self.aborts.len() < MOST_ABORTS {
             self.aborts.push(place);
@@ -53,7 +55,8 @@ impl Directives {
 
     /// Each abort string that equals this one is none any more.
     pub fn clear_abort(&mut self, steps: &[Step], text: &[u8])
-        ensures { settings_of steps.now self.new ≡ without_abort text.now (settings_of steps.now self.old) }
+        ensures set { settings_of steps.now self.new ≡ without_abort text.now (settings_of steps.now self.old) }
+        ensures below { (end : ℕ) → AreBelow end self.old.aborts.items → AreBelow end self.new.aborts.items }
     {
         let mut kept = ArrayVec::new();
         for place in self.aborts.as_slice() {
@@ -67,7 +70,8 @@ impl Directives {
     /// Does what a step sets of the abort strings, if it does.
     pub fn obey(&mut self, steps: &[Step], place: usize, step: &Step)
         requires { slice_get steps.now place ≡ Some step.now }
-        ensures { (left : List Step) → directed (settings_of steps.now self.old) (step.now ∷ left) ≡ directed (settings_of steps.now self.new) left }
+        ensures set { (left : List Step) → directed (settings_of steps.now self.old) (step.now ∷ left) ≡ directed (settings_of steps.now self.new) left }
+        ensures below { (end : ℕ) → place < end → AreBelow end self.old.aborts.items → AreBelow end self.new.aborts.items }
     {
         match step {
             Step::Abort(_) => self.set_abort(place),

@@ -1,27 +1,30 @@
 ghost use Rattle.std.specs.Prelude.{◌≡◌, [], ◌∷◌, ◌++◌, OnOk, IfErr};
 ghost use Rattle.ppp_chat.specs.Texts.{AreShort, IsShort};
+ghost use Rattle.ppp_chat.specs.Words.{aborts_set};
 
+use crate::directives::Directives;
 use crate::fault::ScriptFault;
 use crate::step::Step;
 use std::alloc::Global;
 use std::marker::Model;
 
-/// The steps of a script. Contracts see them as their list.
+/// The steps of a script, and the abort strings that they set. Contracts see them as the list of the steps.
 #[derive(Drop)]
 pub(crate) struct Steps {
     steps: Vec<Step>,
+    directives: Directives,
 }
 
 impl Model for Steps {
     ghost use Rattle.std.specs.Prelude.{List};
     ghost use Rattle.ppp_chat.specs.declared.step.Step.{Step};
-    ghost use Rattle.ppp_chat.specs.Texts.{AreShort};
+    ghost use Rattle.ppp_chat.specs.Obeyed.{AreObeyed};
 
     ghost Value = { List Step };
 
     ghost view = { λ steps. steps.steps.items };
 
-    ghost invariant = { λ steps. AreShort steps.steps.items };
+    ghost invariant = { λ steps. AreObeyed steps.steps.items steps.directives };
 }
 
 impl Steps {
@@ -31,6 +34,7 @@ impl Steps {
     {
         Steps {
             steps: Vec::new(alloc),
+            directives: Directives::new(0),
         }
     }
 
@@ -40,8 +44,18 @@ impl Steps {
         ensures pushed { OnOk result (self.new ≡ self.old ++ step ∷ []) }
         ensures memory { IfErr result (λ fault. fault ≡ ScriptFault.NoMemory) }
     {
+        let place = self.steps.len();
         self.steps.push(step)?;
+        let steps = self.steps.as_slice();
+        self.directives.obey(steps, place, &steps[place]);
         Ok(())
+    }
+
+    /// How many abort strings are set behind the steps.
+    pub fn aborts_set(&self) -> usize
+        ensures { result ≡ aborts_set self.now }
+    {
+        self.directives.aborts.len()
     }
 
     /// The steps.

@@ -1,9 +1,8 @@
 ghost use Rattle.std.specs.Prelude.{◌≡◌, ◌++◌, List, Bool};
 ghost use Rattle.ppp_chat.specs.Reading.{Adds};
-ghost use Rattle.ppp_chat.specs.Texts.{settings_of};
-ghost use Rattle.ppp_chat.specs.Words.{aborts_set, behind_expect, directed, is_digit, is_directive, place_after, seconds_of, word_steps};
+ghost use Rattle.ppp_chat.specs.Words.{behind_expect, is_digit, is_directive, place_after, seconds_of, word_steps};
 
-use crate::directives::{Directives, MOST_ABORTS};
+use crate::directives::MOST_ABORTS;
 use crate::fault::ScriptFault;
 use crate::parts::Parts;
 use crate::pieces::Pieces;
@@ -86,19 +85,6 @@ fn seconds_of(word: &[u8]) -> Option<u16>
     Some(number as u16)
 }
 
-/// How many abort strings are set behind these steps.
-fn aborts_set(steps: &[Step]) -> usize
-    ensures { result ≡ aborts_set steps.now }
-{
-    let mut directives = Directives::new(0);
-    let mut place = 0;
-    'setting: while let Some(step) = steps.get(place) {
-        directives.obey(steps, place, step);
-        place += 1;
-    }
-    directives.aborts.len()
-}
-
 /// Adds the steps of a word in an expect's place.
 fn read_expect(
     alloc: Global,
@@ -144,7 +130,7 @@ fn read_abort(
     ensures { Adds steps.old steps.new result (word_steps Place.BehindAbort number steps.old word.now) }
 {
     let pieces = Pieces::read(alloc, number, word)?;
-    if aborts_set(steps.as_slice()) >= MOST_ABORTS {
+    if steps.aborts_set() >= MOST_ABORTS {
         return Err(ScriptFault::TooManyAborts);
     }
     if pieces.text_len() > MOST_STRING {
