@@ -4,6 +4,9 @@
 //! `class` says which event a packet is, given our last request. `verdict_by` answers a request by a `Judge`, who
 //! says of each option whether it is acknowledged, named or rejected. `Negotiation::step` carries out the acts of one
 //! event; what it comes with is the `Occasion`, which the protocol above fills in.
+//!
+//! What a negotiation has come to stands in `specs/Past.antt`: each part is found by looking back over what happened.
+//! `laws` shows that a step leaves just that.
 #![tactic(auto)]
 
 mod classes;

@@ -4,6 +4,8 @@
 //! `verdict` answers a peer's request. `Ours` is what we ask for at present. `Lcp` is the negotiation on one link:
 //! each call is told the time in milliseconds and answers what is to be sent in its `LcpOut`. The automaton, the
 //! identifiers and the restart timer are those of `ppp_control`.
+//!
+//! What a session has come to stands in `specs/Session.antt`: each part is found by looking back over its calls.
 #![tactic(auto)]
 
 mod judge;
