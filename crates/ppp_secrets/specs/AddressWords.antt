@@ -9,11 +9,6 @@ use Rattle.ppp_secrets.specs.declared.address_word.Cover.TheVariants.{Every, Sub
 use Rattle.ppp_secrets.specs.declared.address_word.AddressWord.{AddressWord}
 use Rattle.ppp_secrets.specs.Numbers.{number_of}
 
--- the pieces of what stands behind a separator, or none where there was no separator
-abbrev pub pieces_of : ℕ → Option (List ℕ) → List (List ℕ)
-pieces_of separator None = []
-pieces_of separator (Some octets) = slice_split (λ octet. octet == separator) octets
-
 -- the number that the first piece is, from 0 to 255, and the pieces behind it
 abbrev pub first_number : List (List ℕ) → Option (ℕ × List (List ℕ))
 first_number [] = None
@@ -38,15 +33,12 @@ four_numbers pieces =
 abbrev pub address_of : List ℕ → Option ℕ
 address_of octets = four_numbers (slice_split (λ octet. octet == 46) octets)
 
--- a subnet of this address: n is 32 where it is left out, and else a number from 0 to 32
-abbrev pub with_bits : ℕ → List (List ℕ) → Option Cover
-with_bits address [] = Some (Subnet address 32)
-with_bits address (piece ∷ pieces) = option_and_then (λ bits. where_none_left pieces (Subnet address bits)) (number_of 32 piece)
-
--- the pieces between the slashes of a.b.c.d/n
+-- the pieces between the slashes of a.b.c.d/n, of which n is 32 where it is left out
 abbrev pub subnet_at : List (List ℕ) → Option Cover
 subnet_at [] = None
-subnet_at (piece ∷ pieces) = option_and_then (λ address. with_bits address pieces) (address_of piece)
+subnet_at (address ∷ []) = option_map (λ network. Subnet network 32) (address_of address)
+subnet_at (address ∷ bits ∷ []) = option_and_then (λ network. option_map (Subnet network) (number_of 32 bits)) (address_of address)
+subnet_at (address ∷ bits ∷ more ∷ pieces) = None
 
 -- a.b.c.d or a.b.c.d/n
 unfoldable pub subnet_of : List ℕ → Option Cover

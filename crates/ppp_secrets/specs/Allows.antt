@@ -1,11 +1,12 @@
 -- Which addresses a line of a secrets file allows (pppd(8), "Authentication").
 use Rattle.std.specs.Prelude.{ℕ, ◌-◌, ◌/◌, ◌^◌, ◌==◌, Bool, true, false, if◌then◌else◌, List, [], ◌∷◌, Option, Some, None}
 use Rattle.std.specs.List.{find}
+use Rattle.ppp_base.specs.declared.allow.Allow.{Allow}
+use Rattle.ppp_base.specs.declared.allow.Allow.TheVariants.{Any, Pap, Chap}
 use Rattle.ppp_secrets.specs.declared.address_word.Cover.{Cover}
 use Rattle.ppp_secrets.specs.declared.address_word.Cover.TheVariants.{Every, Subnet, Nothing}
 use Rattle.ppp_secrets.specs.declared.address_word.AddressWord.{AddressWord}
-use Rattle.ppp_secrets.specs.SecretLine.{SecretLine}
-use Rattle.ppp_secrets.specs.Lookup.{line_numbered}
+use Rattle.ppp_secrets.specs.SecretLine.{SecretLine, line_numbered}
 
 -- A subnet of n bits covers the addresses with the same first n bits.
 abbrev pub covers : ℕ → Cover → Bool
@@ -41,3 +42,10 @@ line_allows address (Some line) = allowed line.addresses address
 -- whether the line with this number allows the address
 abbrev pub Allows : List SecretLine → ℕ → ℕ → Bool
 Allows lines number address = line_allows address (line_numbered number lines)
+
+-- Whether a peer may have the address: any, where it was not asked to prove itself, else those of its line in the
+-- secrets of PAP or in those of CHAP.
+abbrev pub pair_allows : List SecretLine → List SecretLine → Allow → ℕ → Bool
+pair_allows pap chap Any address = true
+pair_allows pap chap (Pap number) address = Allows pap number address
+pair_allows pap chap (Chap number) address = Allows chap number address

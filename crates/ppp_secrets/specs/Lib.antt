@@ -1,6 +1,10 @@
 pub mod Numbers
 pub mod AddressWords
+pub mod AddressForms
 pub mod SecretLine
 pub mod Lookup
 pub mod Allows
+pub mod LineFaults
 pub mod Reading
+pub mod Answers
+pub mod Steps

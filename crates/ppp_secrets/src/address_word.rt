@@ -1,6 +1,7 @@
 ghost use Rattle.std.specs.Prelude.{◌≡◌, ◌==◌};
 ghost use Rattle.std.specs.Option.{option_map, option_copied};
-ghost use Rattle.ppp_secrets.specs.AddressWords.{first_number, pieces_of, address_of, subnet_of, cover_of, address_word_of};
+ghost use Rattle.ppp_secrets.specs.AddressWords.{first_number, address_of, subnet_of, cover_of, address_word_of};
+ghost use Rattle.ppp_secrets.specs.Steps.{pieces_of};
 
 use crate::numbers::number;
 use crate::pieces::first_piece;
@@ -26,7 +27,7 @@ pub struct AddressWord {
     pub cover: Cover,
 }
 
-/// The number that the first piece between dots is, from 0 to 255, and what stands behind the dot.
+// The number that the first piece between dots is, from 0 to 255, and what stands behind the dot.
 fn first_number(octets: Option<&[u8]>) -> Option<(u8, Option<&[u8]>)>
     ensures { option_map (λ found. (found.0, pieces_of 46 (option_copied found.1))) result ≡ first_number (pieces_of 46 (option_copied octets.entry)) }
 {
@@ -35,7 +36,7 @@ fn first_number(octets: Option<&[u8]>) -> Option<(u8, Option<&[u8]>)>
     Some((number, rest))
 }
 
-/// The address that the octets are, as a number whose highest octet is the first.
+// The address that the octets are, as a number whose highest octet is the first.
 #[tactic(auto, using(crate::proofs::PieceLemmas::some_left), unfolding(crate::specs::AddressWords::four_numbers))]
 fn dotted(octets: &[u8]) -> Option<u32>
     ensures { result ≡ address_of octets.now }
@@ -50,7 +51,7 @@ fn dotted(octets: &[u8]) -> Option<u32>
     Some(u32::from_be_bytes([a, b, c, d]))
 }
 
-/// The subnet that the octets are.
+// The subnet that the octets are.
 #[tactic(auto, using(crate::proofs::PieceLemmas::some_left), unfolding(crate::specs::AddressWords::subnet_of))]
 fn subnet(octets: &[u8]) -> Option<Cover>
     ensures { result ≡ subnet_of octets.now }
@@ -68,7 +69,7 @@ fn subnet(octets: &[u8]) -> Option<Cover>
     Some(Cover::Subnet(address, bits))
 }
 
-/// `*`, or the subnet that the octets are.
+// `*`, or the subnet that the octets are.
 fn star_or_subnet(octets: &[u8]) -> Option<Cover>
     ensures { result ≡ cover_of octets.now }
 {
@@ -78,7 +79,7 @@ fn star_or_subnet(octets: &[u8]) -> Option<Cover>
     subnet(octets)
 }
 
-/// The address word that the octets are, if they are one.
+// The address word that the octets are, if they are one.
 #[tactic(auto, unfolding(crate::specs::AddressWords::address_word_of))]
 pub fn read_word(octets: &[u8]) -> Option<AddressWord>
     ensures { result ≡ address_word_of octets.now }

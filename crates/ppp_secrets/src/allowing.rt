@@ -4,7 +4,7 @@ ghost use Rattle.ppp_secrets.specs.Allows.{covers, begins_with_none, decided, al
 
 use crate::address_word::{AddressWord, Cover};
 
-/// Whether an address word speaks of an address.
+// Whether an address word speaks of an address.
 fn covers(address: u32, cover: Cover) -> bool
     ensures { result ≡ covers address cover }
 {
@@ -18,7 +18,7 @@ fn covers(address: u32, cover: Cover) -> bool
     }
 }
 
-/// Whether the first word is `-`.
+// Whether the first word is `-`.
 fn begins_with_none(words: &[AddressWord]) -> bool
     ensures { result ≡ begins_with_none words.now }
 {
@@ -28,7 +28,7 @@ fn begins_with_none(words: &[AddressWord]) -> bool
     }
 }
 
-/// The first word that covers an address.
+// The first word that covers an address.
 fn first_covering(words: &[AddressWord], address: u32) -> Option<AddressWord>
     ensures { result ≡ find (λ word. covers address word.cover) words.now }
 {
@@ -38,7 +38,7 @@ fn first_covering(words: &[AddressWord], address: u32) -> Option<AddressWord>
         .find(|word| covers(address, word.cover))
 }
 
-/// What the first word that covers an address says of it.
+// What the first word that covers an address says of it.
 fn decided(words: &[AddressWord], address: u32) -> bool
     ensures { result ≡ decided (find (λ word. covers address word.cover) words.now) }
 {
@@ -48,7 +48,7 @@ fn decided(words: &[AddressWord], address: u32) -> bool
     }
 }
 
-/// Whether the words of a line allow an address.
+// Whether the words of a line allow an address.
 pub fn allowed(words: &[AddressWord], address: u32) -> bool
     ensures { result ≡ allowed words.now address }
 {

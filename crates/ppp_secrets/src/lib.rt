@@ -7,6 +7,7 @@
 mod address_word;
 mod allowing;
 mod fault;
+pub mod laws;
 mod line;
 mod numbers;
 mod pieces;

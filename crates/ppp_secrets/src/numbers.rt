@@ -1,7 +1,7 @@
 ghost use Rattle.std.specs.Prelude.{◌≡◌};
 ghost use Rattle.ppp_secrets.specs.Numbers.{number_of};
 
-/// The decimal number that the octets are, where it is at most this. Leading zeros are lawful.
+// The decimal number that the octets are, where it is at most this. Leading zeros are lawful.
 pub fn number(octets: &[u8], most: u8) -> Option<u8>
     ensures { result ≡ number_of most octets.now }
 {

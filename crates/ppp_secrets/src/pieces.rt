@@ -1,9 +1,9 @@
 ghost use Rattle.std.specs.Prelude.{◌≡◌, ◌==◌, ◌∷◌, ◌<◌, length, IfSome};
 ghost use Rattle.std.specs.List.{slice_split};
 ghost use Rattle.std.specs.Option.{option_copied};
-ghost use Rattle.ppp_secrets.specs.AddressWords.{pieces_of};
+ghost use Rattle.ppp_secrets.specs.Steps.{pieces_of};
 
-/// What stands before the first separator, and what stands behind it, if there is one.
+// What stands before the first separator, and what stands behind it, if there is one.
 pub fn first_piece(octets: &[u8], separator: u8) -> (&[u8], Option<&[u8]>)
     ensures pieces { slice_split (λ octet. octet == separator) octets.now ≡ result.0.now ∷ pieces_of separator (option_copied result.1) }
     ensures shorter { IfSome result.1 (λ rest. length rest.now < length octets.now) }

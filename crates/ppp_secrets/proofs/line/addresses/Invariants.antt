@@ -1,8 +1,12 @@
-use Rattle.std.proofs.Common.{◌≡◌, drop}
-use Rattle.ppp_secrets.specs.Reading.{addresses_of}
-use Rattle.ppp_secrets.proofs.LineLemmas.{with_front}
+use Rattle.std.proofs.Common.{◌≡◌, take, false}
+use Rattle.std.specs.List.{filter_map, list_any}
+use Rattle.ppp_secrets.specs.AddressWords.{address_word_of}
+use Rattle.ppp_secrets.specs.LineFaults.{is_no_address}
 use Rattle.ppp_secrets.proofs.line.addresses.Given as goal
 
--- The address words so far and those that are left are all of them.
+-- Each word so far is an address word, and these are kept.
 abbrev pub invariant-loop-word : goal.invariant-loop-word
-invariant-loop-word l = with_front l.addresses.items (addresses_of (drop l.word-index l.words)) ≡ addresses_of l.words
+invariant-loop-word l = record {
+  each : list_any is_no_address (take l.word-index l.words) ≡ false;
+  kept : l.addresses.items ≡ filter_map (λ word. address_word_of word.octets) (take l.word-index l.words);
+}

@@ -6,7 +6,7 @@ use Rattle.ppp_secrets.proofs.reading.read_lines.Given as goal
 
 -- The lines so far and those that are left are all of them.
 abbrev pub invariant-reading : goal.invariant-reading
-invariant-reading l = with_lines l.lines.items (left_over l.number (option_copied l.rest)) ≡ secrets_of l.fn.text
+invariant-reading l = with_lines l.lines.items (left_over l.count (option_copied l.rest)) ≡ secrets_of l.fn.text
 
 abbrev pub decreases-reading : goal.decreases-reading
 decreases-reading l = amount (option_copied l.rest)

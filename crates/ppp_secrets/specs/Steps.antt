@@ -1,0 +1,44 @@
+-- What the private calls do, line by line and word by word. What they come to is what `secrets_of` and `line_for` say.
+use Rattle.std.specs.Prelude.{ℕ, ◌+◌, ◌==◌, ◌&&◌, if◌then◌else◌, List, [], ◌∷◌, map, Option, Some, None, Result, Ok, Err}
+use Rattle.std.specs.List.{find, list_any, filter_map, slice_split, enumerate_from}
+use Rattle.std.specs.Option.{option_or}
+use Rattle.ppp_words.specs.PlacedWord.{PlacedWord}
+use Rattle.ppp_words.specs.Steps.{words_of}
+use Rattle.ppp_words.specs.declared.backslash.Backslash.TheVariants.{Dropped}
+use Rattle.ppp_secrets.specs.declared.fault.SecretsFault.{SecretsFault}
+use Rattle.ppp_secrets.specs.declared.address_word.AddressWord.{AddressWord}
+use Rattle.ppp_secrets.specs.SecretLine.{SecretLine}
+use Rattle.ppp_secrets.specs.AddressWords.{address_word_of}
+use Rattle.ppp_secrets.specs.LineFaults.{LineWords, is_no_address, line_fault, line_kept}
+use Rattle.ppp_secrets.specs.Reading.{held}
+use Rattle.ppp_secrets.specs.Lookup.{is_match, stars}
+
+-- the pieces of what stands behind a separator, or none where there was no separator
+abbrev pub pieces_of : ℕ → Option (List ℕ) → List (List ℕ)
+pieces_of separator None = []
+pieces_of separator (Some octets) = slice_split (λ octet. octet == separator) octets
+
+-- the address words, if each is one
+abbrev pub addresses_of : List PlacedWord → Option (List AddressWord)
+addresses_of words = if list_any is_no_address words then None else Some (filter_map (λ word. address_word_of word.octets) words)
+
+abbrev pub fault_or : Option SecretsFault → Option SecretLine → Result (Option SecretLine) SecretsFault
+fault_or None line = Ok line
+fault_or (Some fault) line = Err fault
+
+-- what a line comes to: its first fault, else what is kept of it
+unfoldable pub line_answer : ℕ → LineWords → Result (Option SecretLine) SecretsFault
+line_answer number words = fault_or (line_fault (number, words)) (line_kept (number, words))
+
+-- what lines hold of which the first has this number
+unfoldable pub held_from : ℕ → List (List ℕ) → Result (List SecretLine) SecretsFault
+held_from number lines = held (enumerate_from number (map (words_of Dropped) lines))
+
+-- the first line for two names that has so many *
+abbrev pub first_match : List ℕ → List ℕ → ℕ → List SecretLine → Option SecretLine
+first_match client server count lines = find (λ line. is_match client server line && (stars line == count)) lines
+
+-- three searches, one after another
+unfoldable pub searched : List ℕ → List ℕ → List SecretLine → Option SecretLine
+searched client server lines =
+    option_or (option_or (first_match client server 0 lines) (first_match client server 1 lines)) (first_match client server 2 lines)
