@@ -1,4 +1,7 @@
 pub mod PieceLemmas
 pub mod NumberLemmas
 pub mod LineLemmas
+pub mod FewestLemmas
+pub mod LookupLemmas
+pub mod HoldsLemmas
 mod Rows

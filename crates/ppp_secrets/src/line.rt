@@ -141,6 +141,7 @@ fn addresses(alloc: Global, words: &[Word]) -> Result<Option<Vec<AddressWord>>, 
 }
 
 // The line that these words are, or none where there are no words.
+#[tactic(auto, unfolding(crate::specs::Steps::line_answer))]
 fn line_of(alloc: Global, number: u32, words: &[Word]) -> Result<Option<Line>, SecretsFault>
     ensures { Gives (λ line. line) result (line_answer number (Ok words.now)) }
 {
@@ -178,6 +179,7 @@ fn line_of(alloc: Global, number: u32, words: &[Word]) -> Result<Option<Line>, S
 }
 
 // The line that the octets are, or none where they have no words.
+#[tactic(auto, unfolding(crate::specs::Steps::line_answer))]
 pub fn read_line(alloc: Global, number: u32, octets: &[u8]) -> Result<Option<Line>, SecretsFault>
     ensures { Gives (λ line. line) result (line_answer number (words_of Dropped octets.now)) }
 {

@@ -66,11 +66,29 @@ fn search<'a>(lines: &'a [Line], client: &Name, server: &Name) -> Option<&'a Lin
     first_match(lines, client, server, 2)
 }
 
+// The number of a line, if there is one.
+fn number_of(line: Option<&Line>) -> Option<u32>
+    ensures { result ≡ option_map (λ line. line.number) (option_copied line.entry) }
+{
+    match line {
+        Some(line) => Some(line.number()),
+        None => None,
+    }
+}
+
 // The line with this number.
 fn line_numbered(lines: &[Line], number: u32) -> Option<&Line>
     ensures { option_copied result ≡ line_numbered number lines.now }
 {
     lines.iter().find(|line| line.number() == number)
+}
+
+// What a text holds.
+fn held(alloc: Global, text: &[u8]) -> Result<Secrets, SecretsFault>
+    ensures { Gives (λ secrets. secrets) result (secrets_of text.now) }
+{
+    let lines = read_lines(alloc, text)?;
+    Ok(Secrets { lines })
 }
 
 impl Secrets {
@@ -85,8 +103,7 @@ impl Secrets {
         // The same, with what the text holds as a value.
         ensures exact { Gives (λ secrets. secrets) result (secrets_of text.now) }
     {
-        let lines = read_lines(alloc, text)?;
-        Ok(Secrets { lines })
+        held(alloc, text)
     }
 
     /// The number of the line for these two names: of those with the fewest `*` the first.
@@ -97,10 +114,7 @@ impl Secrets {
         // `secret` and `allows` speak of this line.
         ensures line { IfSome result (λ number. line_numbered number self.now ≡ line_for self.now client.now server.now) }
     {
-        match search(self.lines.as_slice(), client, server) {
-            Some(line) => Some(line.number()),
-            None => None,
-        }
+        number_of(search(self.lines.as_slice(), client, server))
     }
 
     /// The secret of a line, if this line was kept.
