@@ -1,12 +1,18 @@
 -- Lines that are read one after another.
-use Rattle.std.proofs.Common.{◌≡◌, ℕ, ◌+◌, ◌<◌, Bool, true, List, [], ◌∷◌, ◌++◌, length, Option, Some, None, refl, ap, append_assoc, arith}
+use Rattle.std.proofs.Common.{◌≡◌, ℕ, ◌+◌, ◌<◌, Bool, true, List, [], ◌∷◌, ◌++◌, length, Option, Some, None, refl, sym, ◌∙◌, ap, take, get_or, false, add-one, append-nil, arith}
 use Rattle.std.specs.Prelude.{Result, Ok, Err, nat_lt, map}
-use Rattle.std.specs.List.{filter_map, cons_option, enumerate_from}
+use Rattle.std.specs.List.{filter_map, cons_option, enumerate_from, list_any}
+use Rattle.std.proofs.Math.Seq.{take-suc}
+use Rattle.std.proofs.lemmas.List.Folds.{list_any-append}
+use Rattle.std.proofs.lemmas.List.Elements.{filter_map-append}
 use Rattle.std.proofs.lemmas.Bool.Decides.{nat_tests}
+use Rattle.ppp_words.specs.PlacedWord.{PlacedWord}
 use Rattle.ppp_words.specs.Steps.{words_of}
 use Rattle.ppp_words.specs.declared.backslash.Backslash.TheVariants.{Dropped}
 use Rattle.ppp_secrets.specs.SecretLine.{SecretLine, rise_above, IsRising}
-use Rattle.ppp_secrets.specs.LineFaults.{LineWords, line_fault, line_kept}
+use Rattle.ppp_secrets.specs.LineFaults.{LineWords, is_no_address, line_fault, line_kept}
+use Rattle.ppp_secrets.specs.AddressWords.{address_word_of}
+use Rattle.ppp_secrets.specs.declared.address_word.AddressWord.{AddressWord}
 use Rattle.ppp_secrets.specs.Reading.{lines_of, first_or, held, secrets_of}
 use Rattle.ppp_secrets.specs.Steps.{pieces_of, fault_or, line_answer, held_from}
 use Rattle.ppp_secrets.specs.declared.fault.SecretsFault.{SecretsFault}
@@ -61,6 +67,36 @@ with_lines-push front line (Err fault) = refl
 -- what is left to read behind so many lines
 abbrev pub left_over : ℕ → Option (List ℕ) → Result (List SecretLine) SecretsFault
 left_over count rest = held_from (count + 1) (pieces_of 10 rest)
+
+pub begins : (front : List SecretLine) (text : List ℕ) → front ≡ [] → with_lines front (left_over 0 (Some text)) ≡ secrets_of text
+begins front text e = rw e (with_no_lines (held_from 1 (lines_of text)) ∙ held_from_one text)
+
+pub one_more : (front new : List SecretLine) (count number : ℕ) (rest : Option (List ℕ)) (octets piece : List ℕ) (others : Option (List ℕ)) (line : SecretLine) (whole : Result (List SecretLine) SecretsFault) →
+    with_lines front (left_over count rest) ≡ whole → rest ≡ Some octets → lines_of octets ≡ piece ∷ pieces_of 10 others → count + 1 ≡ number →
+    line_answer number (words_of Dropped piece) ≡ Ok (Some line) → new ≡ front ++ line ∷ [] → with_lines new (left_over number others) ≡ whole
+one_more front new count number rest octets piece others line whole so_far is pieces next answer push =
+    let first : left_over count rest ≡ held_from number (piece ∷ pieces_of 10 others) =
+      ap (λ left. left_over count left) is ∙ ap (λ at. held_from at (lines_of octets)) next ∙ ap (held_from number) pieces in
+    let behind : held_from number (piece ∷ pieces_of 10 others) ≡ onto_lines (Ok (Some line)) (left_over number others) =
+      held_from_cons number piece (pieces_of 10 others) ∙ ap (λ this. onto_lines this (left_over number others)) answer in
+    rw push (sym (with_lines-push front line (left_over number others)) ∙ sym (ap (with_lines front) (first ∙ behind)) ∙ so_far)
+
+pub none_left : (front : List SecretLine) (count : ℕ) (rest : Option (List ℕ)) (whole : Result (List SecretLine) SecretsFault) →
+    with_lines front (left_over count rest) ≡ whole → rest ≡ None → whole ≡ Ok front
+none_left front count rest whole so_far is =
+    let nothing : left_over count rest ≡ Ok [] = ap (λ left. left_over count left) is ∙ held_from_none (count + 1) in
+    sym so_far ∙ ap (with_lines front) nothing ∙ ap Ok (append-nil front)
+
+-- address words that are read one after another
+pub more_words : (words : List PlacedWord) (i : ℕ) (word : PlacedWord) (address : AddressWord) (kept new : List AddressWord) → i < length words → word ≡ get_or words i word →
+    address_word_of word.octets ≡ Some address → list_any is_no_address (take i words) ≡ false → kept ≡ filter_map (λ word. address_word_of word.octets) (take i words) → new ≡ kept ++ address ∷ [] →
+    (list_any is_no_address (take (i + 1) words) ≡ false) × (new ≡ filter_map (λ word. address_word_of word.octets) (take (i + 1) words))
+more_words words i word address kept new within item read each so_far push =
+    let more : take (i + 1) words ≡ take i words ++ word ∷ [] = rw add-one (take-suc words i word within ∙ ap (λ last. take i words ++ last ∷ []) (sym item)) in
+    let one : is_no_address word ≡ false = rw read refl in
+    let last : filter_map (λ (word : PlacedWord). address_word_of word.octets) (word ∷ []) ≡ address ∷ [] = rw read refl in
+    ( rw (more, list_any-append is_no_address (take i words) (word ∷ []), each, one) refl
+    , rw more (push ∙ ap (λ front. front ++ address ∷ []) so_far ∙ sym (filter_map-append (λ (word : PlacedWord). address_word_of word.octets) (take i words) (word ∷ []) ∙ ap (λ back. filter_map (λ (word : PlacedWord). address_word_of word.octets) (take i words) ++ back) last)) )
 
 -- how much is left
 abbrev pub amount : Option (List ℕ) → ℕ

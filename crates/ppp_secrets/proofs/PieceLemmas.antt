@@ -3,7 +3,7 @@ use Rattle.std.proofs.Common.{◌≡◌, ℕ, ◌<◌, zero, suc, Bool, true, fa
 use Rattle.std.specs.Prelude.{◌==◌}
 use Rattle.std.specs.List.{slice_split, onto_first}
 use Rattle.std.proofs.lemmas.Bool.Decides.{eqb_tells}
-use Rattle.ppp_secrets.specs.AddressWords.{where_none_left}
+use Rattle.ppp_secrets.specs.AddressWords.{where_none_left, subnet_at}
 
 -- Octets have at least one piece.
 pub some_left : {A : Type 0} (s : ℕ) (xs : List ℕ) (value : A) → where_none_left (slice_split (λ octet. octet == s) xs) value ≡ None
@@ -11,6 +11,16 @@ some_left s [] value = refl
 some_left s (b ∷ bs) value = go (b == s) (slice_split (λ octet. octet == s) bs)
   where
     go : (test : Bool) (rest : List (List ℕ)) → where_none_left (cond test ([] ∷ rest) (onto_first b rest)) value ≡ None
+    go true rest = refl
+    go false [] = refl
+    go false (piece ∷ pieces) = refl
+
+-- Octets with two slashes or more are no subnet.
+pub no_third : (s : ℕ) (address bits octets : List ℕ) → subnet_at (address ∷ bits ∷ slice_split (λ octet. octet == s) octets) ≡ None
+no_third s address bits [] = refl
+no_third s address bits (b ∷ bs) = go (b == s) (slice_split (λ octet. octet == s) bs)
+  where
+    go : (test : Bool) (rest : List (List ℕ)) → subnet_at (address ∷ bits ∷ cond test ([] ∷ rest) (onto_first b rest)) ≡ None
     go true rest = refl
     go false [] = refl
     go false (piece ∷ pieces) = refl

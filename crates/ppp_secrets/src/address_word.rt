@@ -52,7 +52,7 @@ fn dotted(octets: &[u8]) -> Option<u32>
 }
 
 // The subnet that the octets are.
-#[tactic(auto, using(crate::proofs::PieceLemmas::some_left), unfolding(crate::specs::AddressWords::subnet_of))]
+#[tactic(auto, using(crate::proofs::PieceLemmas::no_third), unfolding(crate::specs::AddressWords::subnet_of))]
 fn subnet(octets: &[u8]) -> Option<Cover>
     ensures { result ≡ subnet_of octets.now }
 {

@@ -1,5 +1,5 @@
 use super::*;
-use ppp_base::Name;
+use ppp_base::{Allow, Name};
 use std::test::*;
 
 fn name(octets: &[u8]) -> Result<Name, Fail> {
@@ -13,19 +13,28 @@ fn the_line_with_the_fewest_stars(rt: HostRuntime) -> Result<(), Fail> {
         .ok()
         .ok_or("lawful")?;
     let secrets = read.copy(rt.alloc()).ok().ok_or("room")?;
+    let none = Secrets::read(rt.alloc(), b"".as_slice())
+        .ok()
+        .ok_or("lawful")?;
     let pair = SecretsPair {
-        pap: read,
+        pap: none,
         chap: secrets,
     };
+    let pair = pair.copy(rt.alloc()).ok().ok_or("room")?;
     let server = name(b"srv")?;
     assert_eq!(rt; pair.chap.lookup(&name(b"bob")?, &server), Some(2));
     assert_eq!(rt; pair.chap.lookup(&name(b"eve")?, &server), Some(1));
-    assert_eq!(rt; pair.pap.lookup(&server, &name(b"bob")?), None);
+    assert_eq!(rt; pair.chap.lookup(&server, &name(b"bob")?), None);
+    assert_eq!(rt; pair.pap.lookup(&name(b"bob")?, &server), None);
     assert!(rt; pair.chap.allows(2, [10, 1, 2, 3]));
     assert!(rt; !pair.chap.allows(2, [11, 0, 0, 1]));
     assert!(rt; pair.chap.allows(1, [11, 0, 0, 1]));
     assert!(rt; !pair.chap.allows(3, [11, 0, 0, 1]));
     assert!(rt; !pair.chap.allows(4, [11, 0, 0, 1]));
+    assert!(rt; pair.allows(Allow::Any, [11, 0, 0, 1]));
+    assert!(rt; pair.allows(Allow::Chap(2), [10, 1, 2, 3]));
+    assert!(rt; !pair.allows(Allow::Chap(2), [11, 0, 0, 1]));
+    assert!(rt; !pair.allows(Allow::Pap(2), [10, 1, 2, 3]));
     let secret = pair.chap.secret(2).ok_or("a kept line")?;
     assert_eq!(rt; secret.as_slice(), b"two".as_slice());
     assert!(rt; pair.chap.secret(4).is_none());
@@ -34,7 +43,7 @@ fn the_line_with_the_fewest_stars(rt: HostRuntime) -> Result<(), Fail> {
 
 #[test]
 fn address_words(rt: HostRuntime) -> Result<(), Fail> {
-    let text = b"a b c !10.0.0.0/8 *\n# none\na b c 0.0.0.0/0\na b c 001.2.3.4 - 1.2.3.6/31\n";
+    let text = b"a b c !10.0.0.0/8 *\n# none\na b c 0.0.0.0/0\na b c 001.2.3.0000000004 - 1.2.3.6/0000000031\n";
     let secrets = Secrets::read(rt.alloc(), text.as_slice())
         .ok()
         .ok_or("lawful")?;
@@ -56,11 +65,14 @@ fn address_words(rt: HostRuntime) -> Result<(), Fail> {
 
 #[test]
 fn faults(rt: HostRuntime) {
-    let texts: [(&[u8], SecretsFault); 10] = [
+    let texts: [(&[u8], SecretsFault); 13] = [
         (b"bob srv", SecretsFault::FewWords(1)),
         (b"a b c 10.0.0.1\n\nd e @f", SecretsFault::FileSecret(3)),
         (b"a b c\n'a\nb' c d", SecretsFault::BadQuote(2)),
+        (b"a", SecretsFault::FewWords(1)),
         (b"a b c 1.2.3", SecretsFault::BadAddress(1)),
+        (b"a b c 1.2.3.00000000004", SecretsFault::BadAddress(1)),
+        (b"a b c 1.2.3.4/00000000008", SecretsFault::BadAddress(1)),
         (b"a b c 1.2.3.256", SecretsFault::BadAddress(1)),
         (b"a b c 1.2.3.4/33", SecretsFault::BadAddress(1)),
         (b"a b c 1.2.3.4/", SecretsFault::BadAddress(1)),
