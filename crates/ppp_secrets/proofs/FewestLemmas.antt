@@ -1,9 +1,9 @@
 -- The first element of a list with the fewest of something, and elements that are found.
-use Rattle.std.proofs.Common.{◌≡◌, ◌≢◌, ℕ, ◌+◌, ◌<◌, ◌≤◌, ◌⊎◌, zero, suc, Bool, true, false, cond, ◌&&◌, ◌||◌, List, [], ◌∷◌, length, get_or, Option, Some, None, refl, sym, ◌∙◌, ap, inl, inr, arith}
+use Rattle.std.proofs.Common.{◌≡◌, ℕ, ◌+◌, ◌<◌, ◌≤◌, ◌⊎◌, zero, suc, Bool, true, false, cond, ◌&&◌, List, [], ◌∷◌, length, get_or, Option, Some, None, refl, sym, ◌∙◌, ap, inl, inr, arith}
 use Rattle.std.specs.Prelude.{◌==◌, nat_le, filter, Contains}
-use Rattle.std.specs.List.{find, list_all, list_any}
+use Rattle.std.specs.List.{find, list_all}
 use Rattle.std.specs.Option.{option_or}
-use Rattle.std.proofs.lemmas.Bool.{cases_Bool, false_from_ne_true}
+use Rattle.std.proofs.lemmas.Bool.{false_from_ne_true}
 use Rattle.std.proofs.lemmas.Bool.Decides.{nat_tests}
 
 module _ {X : Type 0} where
@@ -108,9 +108,9 @@ module _ {X : Type 0} where
         go : (test : Bool) → (f x == k) ≡ test → is_fewest xs x ≡ test
         go true t = let same : f x ≡ k = grind (arith, nat_tests) in rw same (all_have k xs all)
         go false t = false_from_ne_true (is_fewest xs x) (λ few.
-          let low : f x ≤ f one = none_has_fewer (f x) xs few one i in
-          let high : k ≤ f x = all x j in
-          grind (arith, nat_tests))
+            let low : f x ≤ f one = none_has_fewer (f x) xs few one i in
+            let high : k ≤ f x = all x j in
+            grind (arith, nat_tests))
 
     found_at : (k : ℕ) (xs : List X) (one : X) → ((x : X) → In x xs → k ≤ f x) → find (λ x. f x == k) xs ≡ Some one → find (is_fewest xs) xs ≡ Some one
     found_at k xs one all e =
@@ -136,9 +136,11 @@ module _ {X : Type 0} where
         second : (found : Option X) → find (λ x. f x == 2) xs ≡ found → ((x : X) → In x xs → 2 ≤ f x) → found ≡ find (is_fewest xs) xs
         second None e all = let empty : xs ≡ [] = nothing_left xs few (none_at 2 xs all e) in rw empty refl
         second (Some x) e all = sym (found_at 2 xs x all e)
+
         first : (found : Option X) → find (λ x. f x == 1) xs ≡ found → ((x : X) → In x xs → 1 ≤ f x) → option_or found (find (λ x. f x == 2) xs) ≡ find (is_fewest xs) xs
         first None e all = second (find (λ x. f x == 2) xs) refl (none_at 1 xs all e)
         first (Some x) e all = sym (found_at 1 xs x all e)
+
         zeroth : (found : Option X) → find (λ x. f x == 0) xs ≡ found → option_or (option_or found (find (λ x. f x == 1) xs)) (find (λ x. f x == 2) xs) ≡ find (is_fewest xs) xs
         zeroth None e = first (find (λ x. f x == 1) xs) refl (none_at 0 xs (λ x i. omega arith) e)
         zeroth (Some x) e = sym (found_at 0 xs x (λ x i. omega arith) e)
@@ -149,12 +151,15 @@ module _ {X : Type 0} where
       where
         not_found : (x : X) → find (is_fewest xs) xs ≡ Some x → ⊥
         not_found x e = cc
+
         second : (found : Option X) → find (λ x. f x == 2) xs ≡ found → ((x : X) → In x xs → 2 ≤ f x) → xs ≡ []
         second None e all = nothing_left xs few (none_at 2 xs all e)
         second (Some x) e all = absurd (not_found x (found_at 2 xs x all e))
+
         first : (found : Option X) → find (λ x. f x == 1) xs ≡ found → ((x : X) → In x xs → 1 ≤ f x) → xs ≡ []
         first None e all = second (find (λ x. f x == 2) xs) refl (none_at 1 xs all e)
         first (Some x) e all = absurd (not_found x (found_at 1 xs x all e))
+
         zeroth : (found : Option X) → find (λ x. f x == 0) xs ≡ found → xs ≡ []
         zeroth None e = first (find (λ x. f x == 1) xs) refl (none_at 0 xs (λ x i. omega arith) e)
         zeroth (Some x) e = absurd (not_found x (found_at 0 xs x (λ x i. omega arith) e))

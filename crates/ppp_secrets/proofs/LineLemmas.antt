@@ -1,5 +1,5 @@
 -- Lines that are read one after another.
-use Rattle.std.proofs.Common.{◌≡◌, ℕ, ◌+◌, ◌<◌, Bool, true, List, [], ◌∷◌, ◌++◌, length, Option, Some, None, refl, sym, ◌∙◌, ap, take, get_or, false, add-one, append-nil, arith}
+use Rattle.std.proofs.Common.{◌≡◌, ℕ, ◌+◌, ◌<◌, true, List, [], ◌∷◌, ◌++◌, length, Option, Some, None, refl, sym, ◌∙◌, ap, take, get_or, false, add-one, append-nil, arith}
 use Rattle.std.specs.Prelude.{Result, Ok, Err, nat_lt, map}
 use Rattle.std.specs.List.{filter_map, cons_option, enumerate_from, list_any}
 use Rattle.std.proofs.Math.Seq.{take-suc}
@@ -76,9 +76,9 @@ pub one_more : (front new : List SecretLine) (count number : ℕ) (rest : Option
     line_answer number (words_of Dropped piece) ≡ Ok (Some line) → new ≡ front ++ line ∷ [] → with_lines new (left_over number others) ≡ whole
 one_more front new count number rest octets piece others line whole so_far is pieces next answer push =
     let first : left_over count rest ≡ held_from number (piece ∷ pieces_of 10 others) =
-      ap (λ left. left_over count left) is ∙ ap (λ at. held_from at (lines_of octets)) next ∙ ap (held_from number) pieces in
+    ap (λ left. left_over count left) is ∙ ap (λ at. held_from at (lines_of octets)) next ∙ ap (held_from number) pieces in
     let behind : held_from number (piece ∷ pieces_of 10 others) ≡ onto_lines (Ok (Some line)) (left_over number others) =
-      held_from_cons number piece (pieces_of 10 others) ∙ ap (λ this. onto_lines this (left_over number others)) answer in
+    held_from_cons number piece (pieces_of 10 others) ∙ ap (λ this. onto_lines this (left_over number others)) answer in
     rw push (sym (with_lines-push front line (left_over number others)) ∙ sym (ap (with_lines front) (first ∙ behind)) ∙ so_far)
 
 pub none_left : (front : List SecretLine) (count : ℕ) (rest : Option (List ℕ)) (whole : Result (List SecretLine) SecretsFault) →
@@ -94,9 +94,10 @@ pub more_words : (words : List PlacedWord) (i : ℕ) (word : PlacedWord) (addres
 more_words words i word address kept new within item read each so_far push =
     let more : take (i + 1) words ≡ take i words ++ word ∷ [] = rw add-one (take-suc words i word within ∙ ap (λ last. take i words ++ last ∷ []) (sym item)) in
     let one : is_no_address word ≡ false = rw read refl in
-    let last : filter_map (λ (word : PlacedWord). address_word_of word.octets) (word ∷ []) ≡ address ∷ [] = rw read refl in
-    ( rw (more, list_any-append is_no_address (take i words) (word ∷ []), each, one) refl
-    , rw more (push ∙ ap (λ front. front ++ address ∷ []) so_far ∙ sym (filter_map-append (λ (word : PlacedWord). address_word_of word.octets) (take i words) (word ∷ []) ∙ ap (λ back. filter_map (λ (word : PlacedWord). address_word_of word.octets) (take i words) ++ back) last)) )
+    let last : filter_map (λ (word : PlacedWord). address_word_of word.octets) (word ∷ []) ≡ address ∷ [] = rw read refl in (
+      rw (more, list_any-append is_no_address (take i words) (word ∷ []), each, one) refl,
+      rw more (push ∙ ap (λ front. front ++ address ∷ []) so_far ∙ sym (filter_map-append (λ (word : PlacedWord). address_word_of word.octets) (take i words) (word ∷ []) ∙ ap (λ back. filter_map (λ (word : PlacedWord). address_word_of word.octets) (take i words) ++ back) last)),
+    )
 
 -- how much is left
 abbrev pub amount : Option (List ℕ) → ℕ

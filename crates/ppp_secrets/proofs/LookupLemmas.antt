@@ -1,14 +1,14 @@
 -- Which line is for two names.
-use Rattle.std.proofs.Common.{◌≡◌, ℕ, ◌+◌, ◌<◌, ◌≤◌, ◌⊎◌, Bool, true, false, cond, ◌&&◌, List, [], ◌∷◌, Option, Some, None, refl, sym, ◌∙◌, ap, subst, IfSome, inl, inr, arith}
+use Rattle.std.proofs.Common.{◌≡◌, ℕ, ◌+◌, ◌<◌, ◌≤◌, Bool, true, false, cond, ◌&&◌, List, [], ◌∷◌, Option, Some, None, refl, sym, ◌∙◌, ap, subst, IfSome, inl, inr, arith}
 use Rattle.std.specs.Prelude.{◌==◌, nat_lt, filter, Contains}
 use Rattle.std.specs.List.{find}
-use Rattle.std.specs.Option.{option_or, option_map}
-use Rattle.std.proofs.lemmas.Bool.{cases_Bool, false_from_ne_true}
+use Rattle.std.specs.Option.{option_map}
+use Rattle.std.proofs.lemmas.Bool.{false_from_ne_true}
 use Rattle.std.proofs.lemmas.Bool.Decides.{nat_tests}
 use Rattle.ppp_secrets.specs.SecretLine.{SecretLine, line_numbered, rise_above, IsRising}
 use Rattle.ppp_secrets.specs.Lookup.{is_star, is_match, stars, IsLineFor, Lookup, has_fewest, line_for}
 use Rattle.ppp_secrets.specs.Steps.{first_match, searched}
-use Rattle.ppp_secrets.proofs.FewestLemmas.{In, in_from_contains, contains_from_in, in_filter, in_from_filter, find_filter, find_in, find_none, none_has_fewer, three_searches, some_has_fewest}
+use Rattle.ppp_secrets.proofs.FewestLemmas.{In, in_from_contains, contains_from_in, in_filter, in_from_filter, find_filter, find_in, none_has_fewer, three_searches, some_has_fewest}
 
 two_at_most : (a b : Bool) → cond a 1 0 + cond b 1 0 ≤ 2
 two_at_most true true = omega arith
@@ -24,7 +24,7 @@ pub searched_is_line_for : (client server : List ℕ) (lines : List SecretLine) 
 unfolding searched line_for
 searched_is_line_for client server lines =
     let at : (count : ℕ) → first_match client server count lines ≡ find (λ line. stars line == count) (filter (is_match client server) lines) =
-      λ count. find_filter (is_match client server) (λ line. stars line == count) lines in
+    λ count. find_filter (is_match client server) (λ line. stars line == count) lines in
     rw (at 0, at 1, at 2) (three_searches stars (filter (is_match client server) lines) (λ line i. few_stars line))
 
 -- numbers that rise from a number rise from a lower one
@@ -110,13 +110,13 @@ found_is_for lines client server line rise e =
     let found : In line matching × (has_fewest matching line ≡ true) = find_in (has_fewest matching) matching line e in
     let from : In line lines × (is_match client server line ≡ true) = in_from_filter (is_match client server) lines line found.0 in
     let one_of : (other : SecretLine) → Contains lines other → is_match client server other ≡ true → In other matching =
-      λ other c m. in_filter (is_match client server) lines other (in_from_contains lines other c) m in
+    λ other c m. in_filter (is_match client server) lines other (in_from_contains lines other c) m in
     record {
       kept = contains_from_in lines line from.0;
       matches = from.1;
       fewest = λ other c m. none_has_fewer stars (stars line) matching found.1 other (one_of other c m);
       least = λ other c m same.
-        first_is_least (has_fewest matching) 0 matching (rise_filter (is_match client server) 0 lines rise) line other e (one_of other c m)
+          first_is_least (has_fewest matching) 0 matching (rise_filter (is_match client server) 0 lines rise) line other e (one_of other c m)
           (let as_few : has_fewest matching other ≡ has_fewest matching line = rw same refl in as_few ∙ found.1);
     }
 

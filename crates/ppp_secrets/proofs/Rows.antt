@@ -1,12 +1,11 @@
 -- Worked rows, by computing with the definitions alone.
-use Rattle.std.proofs.Common.{◌≡◌, ℕ, true, false, List, [], ◌∷◌, Some, None, refl}
-use Rattle.std.specs.Prelude.{codes, Ok, Err, Result}
+use Rattle.std.proofs.Common.{◌≡◌, true, false, List, [], ◌∷◌, Some, None, refl}
+use Rattle.std.specs.Prelude.{codes, Ok, Err}
 use Rattle.std.specs.Int.{w32, from_be_bytes}
 use Rattle.ppp_words.specs.Steps.{words_of}
-use Rattle.ppp_secrets.specs.declared.fault.SecretsFault.{SecretsFault}
-use Rattle.ppp_secrets.specs.declared.fault.SecretsFault.TheVariants.{BadQuote, FewWords, TooLong, FileSecret, BadAddress}
+use Rattle.ppp_secrets.specs.declared.fault.SecretsFault.TheVariants.{BadQuote, FewWords, FileSecret, BadAddress}
 use Rattle.ppp_secrets.specs.declared.address_word.Cover.TheVariants.{Every, Subnet, Nothing}
-use Rattle.ppp_secrets.specs.SecretLine.{SecretLine, line_numbered, IsRising}
+use Rattle.ppp_secrets.specs.SecretLine.{SecretLine}
 use Rattle.ppp_secrets.specs.AddressWords.{four_numbers, subnet_of, address_word_of}
 use Rattle.ppp_secrets.specs.Reading.{secrets_of}
 use Rattle.ppp_secrets.specs.Lookup.{line_for}

@@ -1,5 +1,5 @@
 -- What the private calls do, line by line and word by word. What they come to is what `secrets_of` and `line_for` say.
-use Rattle.std.specs.Prelude.{ℕ, ◌+◌, ◌==◌, ◌&&◌, if◌then◌else◌, List, [], ◌∷◌, map, Option, Some, None, Result, Ok, Err}
+use Rattle.std.specs.Prelude.{ℕ, ◌==◌, ◌&&◌, if◌then◌else◌, List, [], map, Option, Some, None, Result, Ok, Err}
 use Rattle.std.specs.List.{find, list_any, filter_map, slice_split, enumerate_from}
 use Rattle.std.specs.Option.{option_or}
 use Rattle.ppp_words.specs.PlacedWord.{PlacedWord}

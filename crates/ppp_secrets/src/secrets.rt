@@ -47,9 +47,7 @@ pub struct SecretsPair {
 fn first_match<'a>(lines: &'a [Line], client: &Name, server: &Name, count: u8) -> Option<&'a Line>
     ensures { option_copied result ≡ first_match client.now server.now count lines.now }
 {
-    lines
-        .iter()
-        .find(|line| line.is_match(client, server) && line.stars() == count)
+    lines.iter().find(|line| line.is_match(client, server) && line.stars() == count)
 }
 
 // The first line for these two names with the fewest `*`.

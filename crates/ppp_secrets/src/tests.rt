@@ -43,7 +43,8 @@ fn the_line_with_the_fewest_stars(rt: HostRuntime) -> Result<(), Fail> {
 
 #[test]
 fn address_words(rt: HostRuntime) -> Result<(), Fail> {
-    let text = b"a b c !10.0.0.0/8 *\n# none\na b c 0.0.0.0/0\na b c 001.2.3.0000000004 - 1.2.3.6/0000000031\n";
+    let text =
+        b"a b c !10.0.0.0/8 *\n# none\na b c 0.0.0.0/0\na b c 001.2.3.0000000004 - 1.2.3.6/0000000031\n";
     let secrets = Secrets::read(rt.alloc(), text.as_slice())
         .ok()
         .ok_or("lawful")?;

@@ -1,4 +1,3 @@
-use Rattle.std.proofs.Common.{sym}
 use Rattle.std.specs.Prelude.{Ok}
 use Rattle.ppp_secrets.specs.Reading.{Holds, secrets_of}
 use Rattle.ppp_secrets.proofs.HoldsLemmas.{text_holds, is_held, gives_some, gives_that}
