@@ -1,4 +1,7 @@
 pub mod Disc
 pub mod Hex
 pub mod Mrru
+pub mod Numbers
+pub mod Parts
 pub mod RandomWords
+pub mod Stepped
