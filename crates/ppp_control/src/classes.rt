@@ -27,9 +27,9 @@ pub enum Heard {
 fn is_selection(few: &OptionList, many: &OptionList) -> bool
     ensures { result ≡ is_selection few.now many.now }
 {
-    let mut wanted = few.walk();
+    let mut wanted = few.iter();
     let mut next = wanted.next();
-    let mut walk = many.walk();
+    let mut walk = many.iter();
     'looking: while let Some(have) = walk.next() {
         match next {
             None => return true,

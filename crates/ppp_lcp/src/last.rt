@@ -10,7 +10,7 @@ use ppp_packet::{Agreed, Method, OptionList};
 pub(crate) fn last_body(items: &OptionList, kind: u8) -> Option<&[u8]>
     ensures { option_copied result ≡ last_body kind items.now }
 {
-    let mut walk = items.walk();
+    let mut walk = items.iter();
     let mut found = None;
     'finding: while let Some(seen) = walk.next() {
         if seen.kind == kind {

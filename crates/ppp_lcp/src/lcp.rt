@@ -47,7 +47,7 @@ fn is_proved_by(protocol: u16, method: Option<Method>) -> bool
 fn names_kind(items: &OptionList, kind: u8) -> bool
     ensures { result ≡ names_kind kind items.now }
 {
-    let mut walk = items.walk();
+    let mut walk = items.iter();
     let mut is_named = false;
     'seeking: while let Some(seen) = walk.next() {
         is_named = is_named || seen.kind == kind;

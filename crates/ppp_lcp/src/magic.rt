@@ -11,7 +11,7 @@ use ppp_packet::{Body, OptionList, Packet};
 fn has_magic(items: &OptionList) -> bool
     ensures { result ≡ names_magic items.now }
 {
-    let mut walk = items.walk();
+    let mut walk = items.iter();
     let mut is_magic = false;
     'seeking: while let Some(seen) = walk.next() {
         is_magic = is_magic || (seen.kind == 5 && seen.body.len() == 4);

@@ -117,11 +117,11 @@ fn options_one_by_one(rt: HostRuntime) -> Result<(), Fail> {
         same.to_body().as_slice(),
         [5, 6, 1, 2, 3, 4, 7, 2].as_slice()
     );
-    let mut walk = same.walk();
-    let first = walk.next().expect(&rt, "it is there");
+    let mut items = same.iter();
+    let first = items.next().expect(&rt, "it is there");
     assert_eq!(rt; (first.kind, first.body), (5, [1, 2, 3, 4].as_slice()));
-    assert_eq!(rt; walk.next().expect(&rt, "it is there").kind, 7);
-    assert!(rt; walk.next().is_none());
+    assert_eq!(rt; items.next().expect(&rt, "it is there").kind, 7);
+    assert!(rt; items.next().is_none());
     let out = AuthOut {
         packet: Some(Packet::default()),
         outcome: AuthOutcome::Passed(Name::new(), 1),
