@@ -85,3 +85,9 @@ decimal_alone least most n word small read =
     let within : n ≤ most = grind (arith, nat_tests, parts.high) in
     let fits : value_behind 0 word < 2 ^ 64 = omega (arith, parts.value, within, small) in
     sym (decimal-digits_value own word parts.digits form.0 form.1 fits) ∙ ap decimal parts.value
+
+-- a number that was read is in its range
+pub number_is_within : (least most n : ℕ) (word : List ℕ) → number_of Refused least most word ≡ Some n → (least ≤ n) × (n ≤ most)
+number_is_within least most n word read =
+    let parts = read_parts least most n word read in
+    (grind (arith, nat_tests, parts.low), grind (arith, nat_tests, parts.high))

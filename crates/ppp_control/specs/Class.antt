@@ -1,6 +1,7 @@
 -- What a packet is to a negotiation.
 use Rattle.std.specs.Prelude.{ℕ, ◌==◌, nat_lt, nat_le, nat_eq, ◌&&◌, Bool, true, false, if◌then◌else◌, Option, Some, None, List, [], ◌∷◌, length, slice_index}
 use Rattle.std.specs.Cmp.Lexicographic.{pointwise}
+use Rattle.ppp_base.specs.declared.code.TheConstants.{CODE_REJECT, CONFIGURE_ACK, CONFIGURE_NAK, CONFIGURE_REJECT, CONFIGURE_REQUEST, DISCARD_REQUEST, ECHO_REQUEST, PROTOCOL_REJECT, TERMINATE_ACK, TERMINATE_REQUEST}
 use Rattle.ppp_fsm.specs.declared.event.FsmEvent.{FsmEvent}
 use Rattle.ppp_fsm.specs.declared.event.FsmEvent.TheVariants.{RcrGood, RcrBad, Rca, Rcn, Rtr, Rta, Ruc, RxjGood, RxjBad, Rxr}
 use Rattle.ppp_packet.specs.declared.packet.Packet.{Packet}
@@ -59,15 +60,15 @@ code_reject_heard body = if nat_lt (length body) 1 then Discarded else if nat_le
 -- A packet of LCP, or of another protocol, by its code.
 abbrev pub heard_as : Bool → Option Request → Packet → Heard
 heard_as is_lcp request p =
-    if p.code == 1 then asks_of (read_options p.body)
-    else if p.code == 2 then ack_heard request p
-    else if p.code == 3 then nak_heard request p
-    else if p.code == 4 then reject_heard request p
-    else if p.code == 5 then Event Rtr
-    else if p.code == 6 then Event Rta
-    else if p.code == 7 then code_reject_heard p.body
-    else if is_lcp && p.code == 8 then event_if (nat_le 2 (length p.body)) RxjGood
-    else if is_lcp && nat_le 9 p.code && nat_le p.code 11 then event_if (nat_le 4 (length p.body)) Rxr
+    if p.code == CONFIGURE_REQUEST then asks_of (read_options p.body)
+    else if p.code == CONFIGURE_ACK then ack_heard request p
+    else if p.code == CONFIGURE_NAK then nak_heard request p
+    else if p.code == CONFIGURE_REJECT then reject_heard request p
+    else if p.code == TERMINATE_REQUEST then Event Rtr
+    else if p.code == TERMINATE_ACK then Event Rta
+    else if p.code == CODE_REJECT then code_reject_heard p.body
+    else if is_lcp && p.code == PROTOCOL_REJECT then event_if (nat_le 2 (length p.body)) RxjGood
+    else if is_lcp && nat_le ECHO_REQUEST p.code && nat_le p.code DISCARD_REQUEST then event_if (nat_le 4 (length p.body)) Rxr
     else Event Ruc
 
 -- The event, where a request is acknowledged or not.

@@ -55,6 +55,7 @@ fn packets_are_read_back(rt: HostRuntime) -> Result<(), Fail> {
     let mut out = Frame::new();
     assert!(rt; packet.write(&mut out));
     assert_eq!(rt; out.as_slice(), [1, 2, 0, 10, 2, 6, 0, 0, 0, 0].as_slice());
+    assert!(rt; packet.to_frame() == out);
     out.append(&[0xff; 3]);
     laws::packet_back(&packet, &out.as_slice()[10..]);
     assert!(rt; Packet::read(out.as_slice())? == packet.copy());
