@@ -6,8 +6,8 @@ use Rattle.ppp_fsm.specs.Fsm.{Automaton, acts_of}
 use Rattle.ppp_packet.specs.declared.packet.Packet.{Packet}
 use Rattle.ppp_control.specs.declared.judging.Verdict.{Verdict}
 use Rattle.ppp_control.specs.declared.judging.Verdict.TheVariants.{Ack, Nak, Reject}
-use Rattle.ppp_control.specs.declared.classes.Heard.{Heard}
-use Rattle.ppp_control.specs.declared.classes.Heard.TheVariants.{Request as Asks, Ack as Acked, Nak as Named, Reject as Rejected, Event, Discarded}
+use Rattle.ppp_control.specs.declared.classes.HeardAs.{HeardAs}
+use Rattle.ppp_control.specs.declared.classes.HeardAs.TheVariants.{Request as Asks, Ack as Acked, Nak as Named, Reject as Rejected, Event, Discarded}
 use Rattle.ppp_control.specs.Class.{class_of}
 use Rattle.ppp_lcp.specs.declared.lcp.Lcp.{Lcp}
 use Rattle.ppp_lcp.specs.Verdict.{event_on}
@@ -26,7 +26,7 @@ by_verdict a Ack = refl
 by_verdict a (Nak items) = refl
 by_verdict a (Reject items) = refl
 
-pub told_class : (l : Lcp) (p : Packet) (now : ℕ) (h : Heard) → (heard_told l p now h).acts ≡ acts_on l.core.fsm (class_of (acks_in l h) h)
+pub told_class : (l : Lcp) (p : Packet) (now : ℕ) (h : HeardAs) → (heard_told l p now h).acts ≡ acts_on l.core.fsm (class_of (acks_in l h) h)
 told_class l p now (Asks items) = by_verdict l.core.fsm (verdict_on l items)
 told_class l p now Acked = refl
 told_class l p now (Named items) = refl
@@ -35,7 +35,7 @@ told_class l p now (Event event) = refl
 told_class l p now Discarded = refl
 
 -- The loops that are told are those that stand.
-pub told_loops : (l : Lcp) (p : Packet) (now : ℕ) (h : Heard) → (heard_told l p now h).loops ≡ (heard_lcp l p now h).loops
+pub told_loops : (l : Lcp) (p : Packet) (now : ℕ) (h : HeardAs) → (heard_told l p now h).loops ≡ (heard_lcp l p now h).loops
 told_loops l p now (Asks items) = refl
 told_loops l p now Acked = refl
 told_loops l p now (Named items) = refl

@@ -4,7 +4,7 @@ use Rattle.std.specs.Prelude.{◌==◌, ◌&&◌, ◌||◌, not, min}
 use Rattle.ppp_timer.specs.Due.{has_come}
 use Rattle.ppp_fsm.specs.declared.event.FsmEvent.TheVariants.{Timeout}
 use Rattle.ppp_packet.specs.declared.packet.Packet.{Packet}
-use Rattle.ppp_control.specs.declared.classes.Heard.TheVariants.{Discarded}
+use Rattle.ppp_control.specs.declared.classes.HeardAs.TheVariants.{Discarded}
 use Rattle.ppp_control.specs.Start.{is_due}
 use Rattle.ppp_control.specs.Step.{next_of, packet}
 use Rattle.ppp_control.specs.Past.{Happened}

@@ -11,8 +11,8 @@ use Rattle.ppp_packet.specs.declared.packet.Packet.{Packet}
 use Rattle.ppp_packet.specs.OptionsOf.{Item}
 use Rattle.ppp_control.specs.declared.judging.Verdict.{Verdict}
 use Rattle.ppp_control.specs.declared.judging.Verdict.TheVariants.{Ack}
-use Rattle.ppp_control.specs.declared.classes.Heard.{Heard}
-use Rattle.ppp_control.specs.declared.classes.Heard.TheVariants.{Request as Asks, Ack as Acked, Nak, Reject, Event, Discarded}
+use Rattle.ppp_control.specs.declared.classes.HeardAs.{HeardAs}
+use Rattle.ppp_control.specs.declared.classes.HeardAs.TheVariants.{Request as Asks, Ack as Acked, Nak, Reject, Event, Discarded}
 use Rattle.ppp_fsm.specs.declared.acts.Act.{Act}
 use Rattle.ppp_fsm.specs.declared.acts.Act.TheVariants.{Scn}
 use Rattle.ppp_fsm.specs.Fsm.{acts_of}
@@ -139,7 +139,7 @@ abbrev pub with_reject : Lcp → List Item → Lcp
 with_reject l items = record l { ours = after_reject l.ours items }
 
 -- what a packet leaves, and what is sent for it
-abbrev pub heard_lcp : Lcp → Packet → ℕ → Heard → Lcp
+abbrev pub heard_lcp : Lcp → Packet → ℕ → HeardAs → Lcp
 heard_lcp l p now (Asks items) = after_request (with_loops l items) p items now
 heard_lcp l p now Acked = lcp_step Rca (by_packet l p now) l
 heard_lcp l p now (Nak items) = lcp_step Rcn (by_packet (with_nak l items) p now) (with_nak l items)
@@ -167,7 +167,7 @@ abbrev pub refused_by : Lcp → Packet → Option ℕ
 refused_by l p = if p.code == PROTOCOL_REJECT && nat_le 2 (length p.body) && is_needed l (number2 p.body) then Some (number2 p.body) else None
 
 -- what is told of a packet
-abbrev pub heard_told : Lcp → Packet → ℕ → Heard → LcpOut
+abbrev pub heard_told : Lcp → Packet → ℕ → HeardAs → LcpOut
 heard_told l p now (Asks items) = event_out (event_on (verdict_on l items)) (answering l p items now) (with_loops l items)
 heard_told l p now Acked = event_out Rca (by_packet l p now) l
 heard_told l p now (Nak items) = event_out Rcn (by_packet (with_nak l items) p now) l

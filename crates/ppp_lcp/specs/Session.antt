@@ -6,8 +6,8 @@ use Rattle.ppp_fsm.specs.declared.event.FsmEvent.{FsmEvent}
 use Rattle.ppp_packet.specs.declared.packet.Packet.{Packet}
 use Rattle.ppp_packet.specs.declared.agreed.Agreed.{Agreed}
 use Rattle.ppp_packet.specs.OptionList.{items_of}
-use Rattle.ppp_control.specs.declared.classes.Heard.{Heard}
-use Rattle.ppp_control.specs.declared.classes.Heard.TheVariants.{Request as Asks, Ack as Acked, Nak, Reject, Event, Discarded}
+use Rattle.ppp_control.specs.declared.classes.HeardAs.{HeardAs}
+use Rattle.ppp_control.specs.declared.classes.HeardAs.TheVariants.{Request as Asks, Ack as Acked, Nak, Reject, Event, Discarded}
 use Rattle.ppp_control.specs.Class.{heard_as}
 use Rattle.ppp_control.specs.Past.{Happened, automaton_after, sent_in, last_of, last_request, options_in, last_acked, negotiation_after, IsAcked}
 use Rattle.ppp_lcp.specs.declared.lcp.Lcp.{Lcp}
@@ -19,7 +19,7 @@ use Rattle.ppp_lcp.specs.Ours.{Mark, first_asked, heard_nak, heard_reject, sent_
 use Rattle.ppp_lcp.specs.Negotiating.{begins, is_loop, is_magic, next_echo}
 
 -- what a packet is, given the last request that was sent
-abbrev pub heard_in : List Happened → Packet → Heard
+abbrev pub heard_in : List Happened → Packet → HeardAs
 heard_in past p = heard_as true (last_request (sent_in past)) p
 
 abbrev pub is_open_in : LcpWish → List Happened → Bool
@@ -30,7 +30,7 @@ is_open_in wish past = (automaton_after wish.limits past).state == 9
 abbrev pub is_magic_nak : Packet → Bool
 is_magic_nak p = p.code == CONFIGURE_NAK && names_magic (items_of p.body)
 
-abbrev pub marks_heard : List Packet → Heard → List Mark
+abbrev pub marks_heard : List Packet → HeardAs → List Mark
 marks_heard packets (Asks items) = if list_any is_magic_nak packets then sent_magic ∷ [] else []
 marks_heard packets Acked = []
 marks_heard packets (Nak items) = heard_nak items ∷ []
@@ -58,7 +58,7 @@ abbrev pub magic_in : LcpWish → ℕ → List Happened → ℕ
 magic_in wish words past = (ours_in wish words past).magic
 
 -- Of each request that was heard, the newest first, whether it had our own magic number then.
-abbrev pub own_by : ℕ → Heard → List Bool
+abbrev pub own_by : ℕ → HeardAs → List Bool
 own_by magic (Asks items) = is_loop magic items ∷ []
 own_by magic Acked = []
 own_by magic (Nak items) = []
@@ -92,7 +92,7 @@ echo_after wish (h ∷ past) =
     else None
 
 -- An Echo-Reply in Opened that isn't our own echo.
-abbrev pub is_reply_by : ℕ → Packet → Heard → Bool
+abbrev pub is_reply_by : ℕ → Packet → HeardAs → Bool
 is_reply_by magic p (Event event) = p.code == ECHO_REPLY && nat_le 4 (length p.body) && not (is_magic magic p.body)
 is_reply_by magic p (Asks items) = false
 is_reply_by magic p Acked = false

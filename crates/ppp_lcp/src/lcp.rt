@@ -9,7 +9,7 @@ use crate::ours::Ours;
 use crate::out::LcpOut;
 use crate::wish::LcpWish;
 use ppp_base::{code, protocol};
-use ppp_control::{Heard, Negotiation, Occasion, Verdict, class};
+use ppp_control::{HeardAs, Negotiation, Occasion, Verdict, class};
 use ppp_fsm::{Act, Acts, FsmEvent};
 use ppp_packet::{Agreed, Body, Method, OptionList, Packet};
 use ppp_timer::has_come;
@@ -229,29 +229,29 @@ impl Lcp {
         ensures told { result ≡ heard_told self.old packet.now now (heard_as true self.old.core.request packet.now) }
     {
         match class(true, self.core.request(), packet) {
-            Heard::Request(items) => {
+            HeardAs::Request(items) => {
                 self.count_loop(&items);
                 self.answer(packet, &items, now)
             }
-            Heard::Ack => self.heard_event(FsmEvent::Rca, packet, now),
-            Heard::Nak(items) => {
+            HeardAs::Ack => self.heard_event(FsmEvent::Rca, packet, now),
+            HeardAs::Nak(items) => {
                 self.ours.take_nak(&self.wish, &items);
                 self.heard_event(FsmEvent::Rcn, packet, now)
             }
-            Heard::Reject(items) => {
+            HeardAs::Reject(items) => {
                 self.ours.take_reject(&items);
                 let mut out = self.heard_event(FsmEvent::Rcn, packet, now);
                 out.auth_refused = names_kind(&items, 3);
                 out
             }
-            Heard::Event(event) => {
+            HeardAs::Event(event) => {
                 let refused = self.refused(packet);
                 self.take_reply(packet);
                 let mut out = self.heard_event(event, packet, now);
                 out.network_refused = refused;
                 out
             }
-            Heard::Discarded => LcpOut::none(self.loops),
+            HeardAs::Discarded => LcpOut::none(self.loops),
         }
     }
 

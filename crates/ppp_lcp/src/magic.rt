@@ -19,7 +19,7 @@ fn has_magic(items: &OptionList) -> bool
     is_magic
 }
 
-/// Whether the verdict is a Nak with a magic number.
+// Whether the verdict is a Nak with a magic number.
 pub(crate) fn names_magic(verdict: &Verdict) -> bool
     ensures { result ≡ has_magic verdict.now }
 {
@@ -41,7 +41,7 @@ fn up_to(octets: &[u8], limit: usize) -> &[u8]
     }
 }
 
-/// What a Code-Reject of a packet carries, where it may have so many octets.
+// What a Code-Reject of a packet carries, where it may have so many octets.
 pub(crate) fn cut(packet: &Packet, limit: usize) -> Body
     requires { limit ≤ 1500 }
     ensures { result ≡ cut_packet limit packet.now }
@@ -61,7 +61,7 @@ pub(crate) fn cut(packet: &Packet, limit: usize) -> Body
     body
 }
 
-/// What a Protocol-Reject carries, where it may have so many octets.
+// What a Protocol-Reject carries, where it may have so many octets.
 pub(crate) fn cut_information(protocol: u16, information: &[u8], limit: usize) -> Body
     requires { limit ≤ 1500 }
     ensures { result ≡ cut_information limit protocol information.now }
