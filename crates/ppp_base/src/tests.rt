@@ -203,3 +203,75 @@ fn random_words(rt: HostRuntime) {
     let plain = SendSettings::plain();
     assert!(rt; plain.map == DEFAULT_MAP && !plain.pfc && !plain.acfc);
 }
+
+// A link with one post that waits, which takes what is of its stay.
+#[derive(Drop)]
+struct OnePost {
+    waiting: Option<UpPost>,
+}
+
+impl Ends for OnePost {
+    ghost use Rattle.std.specs.Prelude.{option_to_list};
+
+    ghost number = { λ s. 1 };
+
+    ghost waiting = { λ s. option_to_list s.waiting };
+
+    fn id(&self) -> LinkId {
+        match LinkId::new(1) {
+            Some(link) => link,
+            None => unreachable!(),
+        }
+    }
+
+    fn take_up(&mut self) -> Option<UpPost> {
+        self.waiting.take()
+    }
+
+    fn from_table(&mut self, post: Post) -> Stepped<Post> {
+        match post {
+            Post::Member { stay: 1, .. } => Stepped::Taken,
+            other => Stepped::Stale(other),
+        }
+    }
+}
+
+#[test]
+fn posts(rt: HostRuntime) {
+    for (reason, number) in [
+        (Refusal::Unlike, 1),
+        (Refusal::UnitTaken, 2),
+        (Refusal::NoRoom, 3),
+    ] {
+        assert_eq!(rt; reason.number(), number, "at {reason:?}");
+    }
+    for (cause, number) in [
+        (CloseCause::Idle, 12),
+        (CloseCause::ConnectTime, 13),
+        (CloseCause::IpcpFailed, 14),
+        (CloseCause::EndedByPeer, 15),
+        (CloseCause::TooManyChanges, 16),
+    ] {
+        assert_eq!(rt; cause.number(), number, "at {cause:?}");
+    }
+    let join = Join {
+        stay: 1,
+        peer: None,
+        disc: None,
+        mrru: None,
+        mru: 1500,
+        allow: Allow::Any,
+    };
+    let mut link = OnePost {
+        waiting: Some(UpPost::Join(join)),
+    };
+    assert_eq!(rt; link.id().number(), 1);
+    assert!(rt; link.take_up().is_some() && link.take_up().is_none());
+    let member = |stay| Post::Member {
+        stay,
+        unit: Unit::zero(),
+        live: false,
+    };
+    assert!(rt; link.from_table(member(1)).is_taken());
+    assert!(rt; link.from_table(member(2)).into_stale() == Some(member(2)));
+}
