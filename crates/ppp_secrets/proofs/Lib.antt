@@ -1,5 +1,4 @@
-pub mod PieceLemmas
-pub mod NumberLemmas
+pub mod PartLemmas
 pub mod LineLemmas
 pub mod FewestLemmas
 pub mod LookupLemmas

@@ -14,7 +14,8 @@ use Rattle.ppp_secrets.specs.LineFaults.{LineWords, is_no_address, line_fault, l
 use Rattle.ppp_secrets.specs.AddressWords.{address_word_of}
 use Rattle.ppp_secrets.specs.declared.address_word.AddressWord.{AddressWord}
 use Rattle.ppp_secrets.specs.Reading.{lines_of, first_or, held, secrets_of}
-use Rattle.ppp_secrets.specs.Steps.{pieces_of, fault_or, line_answer, held_from}
+use Rattle.ppp_base.specs.Parts.{parts_of}
+use Rattle.ppp_secrets.specs.Steps.{fault_or, line_answer}
 use Rattle.ppp_secrets.specs.declared.fault.SecretsFault.{SecretsFault}
 
 -- a line before the lines behind it; a fault goes before all behind it
@@ -23,6 +24,10 @@ onto_lines (Err fault) rest = Err fault
 onto_lines (Ok None) rest = rest
 onto_lines (Ok (Some line)) (Err fault) = Err fault
 onto_lines (Ok (Some line)) (Ok lines) = Ok (line ∷ lines)
+
+-- what lines hold of which the first has this number
+unfoldable pub held_from : ℕ → List (List ℕ) → Result (List SecretLine) SecretsFault
+held_from number lines = held (enumerate_from number (map (words_of Dropped) lines))
 
 onto_first_or : (fault : Option SecretsFault) (line : Option SecretLine) (faults : List SecretsFault) (lines : List SecretLine) →
     first_or (cons_option fault faults) (cons_option line lines) ≡ onto_lines (fault_or fault line) (first_or faults lines)
@@ -66,19 +71,19 @@ with_lines-push front line (Err fault) = refl
 
 -- what is left to read behind so many lines
 abbrev pub left_over : ℕ → Option (List ℕ) → Result (List SecretLine) SecretsFault
-left_over count rest = held_from (count + 1) (pieces_of 10 rest)
+left_over count rest = held_from (count + 1) (parts_of 10 rest)
 
 pub begins : (front : List SecretLine) (text : List ℕ) → front ≡ [] → with_lines front (left_over 0 (Some text)) ≡ secrets_of text
 begins front text e = rw e (with_no_lines (held_from 1 (lines_of text)) ∙ held_from_one text)
 
-pub one_more : (front new : List SecretLine) (count number : ℕ) (rest : Option (List ℕ)) (octets piece : List ℕ) (others : Option (List ℕ)) (line : SecretLine) (whole : Result (List SecretLine) SecretsFault) →
-    with_lines front (left_over count rest) ≡ whole → rest ≡ Some octets → lines_of octets ≡ piece ∷ pieces_of 10 others → count + 1 ≡ number →
-    line_answer number (words_of Dropped piece) ≡ Ok (Some line) → new ≡ front ++ line ∷ [] → with_lines new (left_over number others) ≡ whole
-one_more front new count number rest octets piece others line whole so_far is pieces next answer push =
-    let first : left_over count rest ≡ held_from number (piece ∷ pieces_of 10 others) =
-    ap (λ left. left_over count left) is ∙ ap (λ at. held_from at (lines_of octets)) next ∙ ap (held_from number) pieces in
-    let behind : held_from number (piece ∷ pieces_of 10 others) ≡ onto_lines (Ok (Some line)) (left_over number others) =
-    held_from_cons number piece (pieces_of 10 others) ∙ ap (λ this. onto_lines this (left_over number others)) answer in
+pub one_more : (front new : List SecretLine) (count number : ℕ) (rest : Option (List ℕ)) (octets part : List ℕ) (others : Option (List ℕ)) (line : SecretLine) (whole : Result (List SecretLine) SecretsFault) →
+    with_lines front (left_over count rest) ≡ whole → rest ≡ Some octets → lines_of octets ≡ part ∷ parts_of 10 others → count + 1 ≡ number →
+    line_answer number (words_of Dropped part) ≡ Ok (Some line) → new ≡ front ++ line ∷ [] → with_lines new (left_over number others) ≡ whole
+one_more front new count number rest octets part others line whole so_far is parts next answer push =
+    let first : left_over count rest ≡ held_from number (part ∷ parts_of 10 others) =
+    ap (λ left. left_over count left) is ∙ ap (λ at. held_from at (lines_of octets)) next ∙ ap (held_from number) parts in
+    let behind : held_from number (part ∷ parts_of 10 others) ≡ onto_lines (Ok (Some line)) (left_over number others) =
+    held_from_cons number part (parts_of 10 others) ∙ ap (λ this. onto_lines this (left_over number others)) answer in
     rw push (sym (with_lines-push front line (left_over number others)) ∙ sym (ap (with_lines front) (first ∙ behind)) ∙ so_far)
 
 pub none_left : (front : List SecretLine) (count : ℕ) (rest : Option (List ℕ)) (whole : Result (List SecretLine) SecretsFault) →

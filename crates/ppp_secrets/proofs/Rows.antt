@@ -6,7 +6,8 @@ use Rattle.ppp_words.specs.Steps.{words_of}
 use Rattle.ppp_secrets.specs.declared.fault.SecretsFault.TheVariants.{BadQuote, FewWords, FileSecret, BadAddress}
 use Rattle.ppp_secrets.specs.declared.address_word.Cover.TheVariants.{Every, Subnet, Nothing}
 use Rattle.ppp_secrets.specs.SecretLine.{SecretLine}
-use Rattle.ppp_secrets.specs.AddressWords.{four_numbers, subnet_of, address_word_of}
+use Rattle.ppp_secrets.specs.AddressWords.{subnet_of, address_word_of}
+use Rattle.ppp_base.specs.Numbers.{address_of}
 use Rattle.ppp_secrets.specs.Reading.{secrets_of}
 use Rattle.ppp_secrets.specs.Lookup.{line_for}
 use Rattle.ppp_secrets.specs.Allows.{Allows}
@@ -24,7 +25,7 @@ abbrev three_lines : List SecretLine
 three_lines = star_line ∷ bob_line ∷ no_address_line ∷ []
 
 three_lines_are_held : secrets_of (codes "* srv one *\nbob srv two 10.0.0.0/8\nbob srv three -") ≡ Ok three_lines
-unfolding secrets_of words_of address_word_of subnet_of four_numbers
+unfolding secrets_of words_of address_word_of subnet_of address_of
 three_lines_are_held = refl
 
 bob_has_line_two : line_for three_lines (codes "bob") (codes "srv") ≡ Some bob_line
@@ -59,13 +60,13 @@ an_empty_secret = refl
 
 -- the first line with a fault, and on it the first fault
 file_before_address : secrets_of (codes "a b @c bad\na") ≡ Err (FileSecret 1)
-unfolding secrets_of words_of address_word_of subnet_of four_numbers
+unfolding secrets_of words_of address_word_of subnet_of address_of
 file_before_address = refl
 
 quote_on_line_two : secrets_of (codes "a b c\n'a\nb' c d") ≡ Err (BadQuote 2)
-unfolding secrets_of words_of address_word_of subnet_of four_numbers
+unfolding secrets_of words_of address_word_of subnet_of address_of
 quote_on_line_two = refl
 
 address_on_line_three : secrets_of (codes "a b c 001.2.3.4 - 1.2.3.6/31\n\na b c !-") ≡ Err (BadAddress 3)
-unfolding secrets_of words_of address_word_of subnet_of four_numbers
+unfolding secrets_of words_of address_word_of subnet_of address_of
 address_on_line_three = refl

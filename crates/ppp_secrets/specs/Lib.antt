@@ -1,5 +1,5 @@
-pub mod Numbers
 pub mod AddressWords
+pub mod AddressForms
 pub mod SecretLine
 pub mod Lookup
 pub mod Allows

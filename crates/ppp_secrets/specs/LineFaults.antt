@@ -19,7 +19,7 @@ has_few (client ∷ []) = true
 has_few (client ∷ server ∷ []) = true
 has_few (client ∷ server ∷ secret ∷ words) = false
 
--- more than 255 octets
+-- more octets than a name has: more than 255
 abbrev pub is_too_long : PlacedWord → Bool
 is_too_long word = nat_lt 255 (length word.octets)
 

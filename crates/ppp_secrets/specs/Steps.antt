@@ -13,11 +13,6 @@ use Rattle.ppp_secrets.specs.LineFaults.{LineWords, is_no_address, line_fault, l
 use Rattle.ppp_secrets.specs.Reading.{held}
 use Rattle.ppp_secrets.specs.Lookup.{is_match, stars}
 
--- the pieces of what stands behind a separator, or none where there was no separator
-abbrev pub pieces_of : ℕ → Option (List ℕ) → List (List ℕ)
-pieces_of separator None = []
-pieces_of separator (Some octets) = slice_split (λ octet. octet == separator) octets
-
 -- the address words, if each is one
 abbrev pub addresses_of : List PlacedWord → Option (List AddressWord)
 addresses_of words = if list_any is_no_address words then None else Some (filter_map (λ word. address_word_of word.octets) words)
@@ -29,10 +24,6 @@ fault_or (Some fault) line = Err fault
 -- what a line comes to: its first fault, else what is kept of it
 unfoldable pub line_answer : ℕ → LineWords → Result (Option SecretLine) SecretsFault
 line_answer number words = fault_or (line_fault (number, words)) (line_kept (number, words))
-
--- what lines hold of which the first has this number
-unfoldable pub held_from : ℕ → List (List ℕ) → Result (List SecretLine) SecretsFault
-held_from number lines = held (enumerate_from number (map (words_of Dropped) lines))
 
 -- the first line for two names that has so many *
 abbrev pub first_match : List ℕ → List ℕ → ℕ → List SecretLine → Option SecretLine

@@ -1,10 +1,7 @@
 ghost use Rattle.std.specs.Prelude.{◌≡◌, ◌==◌};
-ghost use Rattle.std.specs.Option.{option_map, option_copied};
-ghost use Rattle.ppp_secrets.specs.AddressWords.{first_number, address_of, subnet_of, cover_of, address_word_of};
-ghost use Rattle.ppp_secrets.specs.Steps.{pieces_of};
+ghost use Rattle.ppp_secrets.specs.AddressWords.{network_of, subnet_of, cover_of, address_word_of};
 
-use crate::numbers::number;
-use crate::pieces::first_piece;
+use ppp_base::{LeadingZeros, first_part, read_address, read_number};
 
 /// Which addresses an address word speaks of.
 #[derive(Clone, Copy, Debug, PartialEq, Eq)]
@@ -27,46 +24,29 @@ pub struct AddressWord {
     pub cover: Cover,
 }
 
-// The number that the first piece between dots is, from 0 to 255, and what stands behind the dot.
-fn first_number(octets: Option<&[u8]>) -> Option<(u8, Option<&[u8]>)>
-    ensures { option_map (λ found. (found.0, pieces_of 46 (option_copied found.1))) result ≡ first_number (pieces_of 46 (option_copied octets.entry)) }
-{
-    let (piece, rest) = first_piece(octets?, b'.');
-    let number = number(piece, 255)?;
-    Some((number, rest))
-}
-
 // The address that the octets are, as a number whose highest octet is the first.
-#[tactic(auto, using(crate::proofs::PieceLemmas::some_left), unfolding(crate::specs::AddressWords::four_numbers))]
-fn dotted(octets: &[u8]) -> Option<u32>
-    ensures { result ≡ address_of octets.now }
+fn network(octets: &[u8]) -> Option<u32>
+    ensures { result ≡ network_of octets.now }
 {
-    let (a, rest) = first_number(Some(octets))?;
-    let (b, rest) = first_number(rest)?;
-    let (c, rest) = first_number(rest)?;
-    let (d, rest) = first_number(rest)?;
-    if rest.is_some() {
-        return None;
-    }
-    Some(u32::from_be_bytes([a, b, c, d]))
+    Some(u32::from_be_bytes(read_address(octets)?))
 }
 
 // The subnet that the octets are.
-#[tactic(auto, using(crate::proofs::PieceLemmas::no_third), unfolding(crate::specs::AddressWords::subnet_of))]
+#[tactic(auto, using(crate::proofs::PartLemmas::a_third_part), unfolding(crate::specs::AddressWords::subnet_of))]
 fn subnet(octets: &[u8]) -> Option<Cover>
     ensures { result ≡ subnet_of octets.now }
 {
-    let (piece, rest) = first_piece(octets, b'/');
-    let address = dotted(piece)?;
+    let (address, rest) = first_part(octets, b'/');
     let Some(rest) = rest else {
-        return Some(Cover::Subnet(address, 32));
+        return Some(Cover::Subnet(network(address)?, 32));
     };
-    let (piece, others) = first_piece(rest, b'/');
-    let bits = number(piece, 32)?;
-    if others.is_some() {
+    let (bits, rest) = first_part(rest, b'/');
+    if rest.is_some() {
         return None;
     }
-    Some(Cover::Subnet(address, bits))
+    let network = network(address)?;
+    let bits = read_number(bits, LeadingZeros::Lawful, 0, 32)?;
+    Some(Cover::Subnet(network, bits as u8))
 }
 
 // `*`, or the subnet that the octets are.

@@ -9,8 +9,6 @@ mod allowing;
 mod fault;
 pub mod laws;
 mod line;
-mod numbers;
-mod pieces;
 mod reading;
 mod secrets;
 

@@ -10,7 +10,7 @@ ghost use Rattle.ppp_secrets.specs.Answers.{Gives};
 
 use crate::address_word::{AddressWord, read_word};
 use crate::fault::SecretsFault;
-use ppp_base::{Name, NoMemory};
+use ppp_base::{MOST_NAME, Name, NoMemory};
 use ppp_words::{Backslash, Word, WordsFault, words};
 use std::alloc::Global;
 use std::marker::Model;
@@ -116,7 +116,7 @@ fn name_of(word: &Word) -> Option<Name>
 fn any_too_long(words: &[Word]) -> bool
     ensures { result ≡ list_any is_too_long words.now }
 {
-    words.iter().any(|word| 255 < word.octets().len())
+    words.iter().any(|word| MOST_NAME < word.octets().len())
 }
 
 // Whether a secret begins with `@` and so names a file.

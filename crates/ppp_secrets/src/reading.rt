@@ -5,7 +5,7 @@ ghost use Rattle.ppp_secrets.specs.Answers.{Gives};
 
 use crate::fault::SecretsFault;
 use crate::line::{Line, read_line};
-use crate::pieces::first_piece;
+use ppp_base::first_part;
 use std::alloc::Global;
 
 // The lines of a secrets file that have words.
@@ -21,7 +21,7 @@ pub fn read_lines(alloc: Global, text: &[u8]) -> Result<Vec<Line>, SecretsFault>
         let Some(number) = count.checked_add(1) else {
             return Err(SecretsFault::NoMemory);
         };
-        let (octets, others) = first_piece(octets, b'\n');
+        let (octets, others) = first_part(octets, b'\n');
         if let Some(line) = read_line(alloc, number, octets)? {
             lines.push(line)?;
         }

@@ -9,8 +9,8 @@ reading-init c = begins _ c.args.text.now c.new-lines.ensures.items
 
 pub reading-preserved-in_ok-push : goal.reading-preserved-in_ok-push
 reading-preserved-in_ok-push c =
-    one_more _ _ _ c.in-Some-checked_add.number _ c.in-Some.octets.now c.first_piece.result.0.now (option_copied c.first_piece.result.1) c.in-Some-2.line _
-    c.reading.invariant (ap option_copied c.in-Some.is) c.first_piece.ensures.pieces (omega arith) (c.in_ok-line.ensures ∙ ap Ok c.in-Some-2.is) c.in_ok-push.ensures.items
+    one_more _ _ _ c.in-Some-checked_add.number _ c.in-Some.octets.now c.first_part.result.0.now (option_copied c.first_part.result.1) c.in-Some-2.line _
+    c.reading.invariant (ap option_copied c.in-Some.is) c.first_part.ensures.parts (omega arith) (c.in_ok-line.ensures ∙ ap Ok c.in-Some-2.is) c.in_ok-push.ensures.items
 
 pub returns-clause-read : goal.returns-clause-read
 returns-clause-read c = none_left _ _ _ _ c.reading.invariant (ap option_copied c.in_default.is)
