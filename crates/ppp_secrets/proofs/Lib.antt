@@ -3,4 +3,5 @@ pub mod LineLemmas
 pub mod FewestLemmas
 pub mod LookupLemmas
 pub mod HoldsLemmas
+pub mod AddressLemmas
 mod Rows

@@ -1,6 +1,7 @@
 -- Which addresses a line of a secrets file allows (pppd(8), "Authentication").
 use Rattle.std.specs.Prelude.{ℕ, ◌-◌, ◌/◌, ◌^◌, ◌==◌, Bool, true, false, if◌then◌else◌, List, [], ◌∷◌, Option, Some, None}
 use Rattle.std.specs.List.{find}
+use Rattle.std.specs.Option.{option_map_or}
 use Rattle.ppp_base.specs.declared.allow.Allow.{Allow}
 use Rattle.ppp_base.specs.declared.allow.Allow.TheVariants.{Any, Pap, Chap}
 use Rattle.ppp_secrets.specs.declared.address_word.Cover.{Cover}
@@ -34,14 +35,9 @@ begins_with_none (word ∷ words) = is_nothing word.cover
 abbrev pub allowed : List AddressWord → ℕ → Bool
 allowed words address = if begins_with_none words then false else decided (find (λ word. covers address word.cover) words)
 
--- where there is such a line, what its words allow
-abbrev pub line_allows : ℕ → Option SecretLine → Bool
-line_allows address None = false
-line_allows address (Some line) = allowed line.addresses address
-
--- whether the line with this number allows the address
+-- whether the line with this number, if there is one, allows the address
 abbrev pub Allows : List SecretLine → ℕ → ℕ → Bool
-Allows lines number address = line_allows address (line_numbered number lines)
+Allows lines number address = option_map_or (λ line. allowed line.addresses address) (line_numbered number lines) false
 
 -- Whether a peer may have the address: any, where it was not asked to prove itself, else those of its line in the
 -- secrets of PAP or in those of CHAP.

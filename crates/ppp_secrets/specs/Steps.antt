@@ -1,16 +1,13 @@
 -- What the private calls do, line by line and word by word. What they come to is what `secrets_of` and `line_for` say.
-use Rattle.std.specs.Prelude.{ℕ, ◌==◌, ◌&&◌, if◌then◌else◌, List, [], map, Option, Some, None, Result, Ok, Err}
-use Rattle.std.specs.List.{find, list_any, filter_map, slice_split, enumerate_from}
+use Rattle.std.specs.Prelude.{ℕ, ◌==◌, ◌&&◌, if◌then◌else◌, List, Option, Some, None, Result, Ok, Err}
+use Rattle.std.specs.List.{find, list_any, filter_map}
 use Rattle.std.specs.Option.{option_or}
 use Rattle.ppp_words.specs.PlacedWord.{PlacedWord}
-use Rattle.ppp_words.specs.Steps.{words_of}
-use Rattle.ppp_words.specs.declared.backslash.Backslash.TheVariants.{Dropped}
 use Rattle.ppp_secrets.specs.declared.fault.SecretsFault.{SecretsFault}
 use Rattle.ppp_secrets.specs.declared.address_word.AddressWord.{AddressWord}
 use Rattle.ppp_secrets.specs.SecretLine.{SecretLine}
 use Rattle.ppp_secrets.specs.AddressWords.{address_word_of}
 use Rattle.ppp_secrets.specs.LineFaults.{LineWords, is_no_address, line_fault, line_kept}
-use Rattle.ppp_secrets.specs.Reading.{held}
 use Rattle.ppp_secrets.specs.Lookup.{is_match, stars}
 
 -- the address words, if each is one

@@ -2,8 +2,11 @@
 
 ghost use Rattle.std.specs.Prelude.{◌≡◌, ◌↔◌, ℕ, List, Option, Some, Result, Ok};
 ghost use Rattle.std.specs.Option.{option_map};
+ghost use Rattle.ppp_secrets.specs.declared.address_word.AddressWord.{AddressWord as Word};
 ghost use Rattle.ppp_secrets.specs.declared.fault.SecretsFault.{SecretsFault};
 ghost use Rattle.ppp_secrets.specs.SecretLine.{SecretLine, IsRising};
+ghost use Rattle.ppp_secrets.specs.AddressForms.{SpellsWord};
+ghost use Rattle.ppp_secrets.specs.AddressWords.{address_word_of};
 ghost use Rattle.ppp_secrets.specs.Reading.{Holds, secrets_of};
 ghost use Rattle.ppp_secrets.specs.Lookup.{IsLineFor, Lookup, line_for};
 
@@ -27,4 +30,9 @@ pub fn two_names_have_one_line()
         Lookup lines client server number → Lookup lines client server other → number ≡ other }
     ensures line { (lines : List SecretLine) (client server : List ℕ) (line : SecretLine) → IsRising lines →
         (line_for lines client server ≡ Some line) ↔ IsLineFor lines client server line }
+{}
+
+/// Octets are an address word exactly where they are spelled as one, and it means what was spelled.
+pub fn address_words_are_spelled()
+    ensures { (octets : List ℕ) (word : Word) → (address_word_of octets ≡ Some word) ↔ SpellsWord octets word }
 {}

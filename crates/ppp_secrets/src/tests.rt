@@ -93,3 +93,41 @@ fn faults(rt: HostRuntime) {
     );
     assert_eq!(rt; Secrets::read(rt.alloc(), &long[..259]).err(), None);
 }
+
+#[test]
+fn the_best_line_of_a_text(rt: HostRuntime) -> Result<(), Fail> {
+    let rows: [(&[u8], Option<u32>); 5] = [
+        (b"bob * one\nbob srv two", Some(2)),
+        (b"* * a\n* srv b", Some(2)),
+        (b"* * a\nbob * b", Some(2)),
+        (b"bob * one\n* srv two", Some(1)),
+        (b"eve * one\n\nbob eve two", None),
+    ];
+    let (bob, server) = (name(b"bob")?, name(b"srv")?);
+    for (text, line) in rows {
+        let secrets = Secrets::read(rt.alloc(), text).ok().ok_or("lawful")?;
+        assert_eq!(rt; secrets.lookup(&bob, &server), line);
+    }
+    Ok(())
+}
+
+#[test]
+fn the_first_word_that_covers(rt: HostRuntime) -> Result<(), Fail> {
+    let rows: [(&[u8], bool); 10] = [
+        (b"a b c - 10.0.0.1", false),
+        (b"a b c - *", false),
+        (b"a b c 1.2.3.4 - 10.0.0.0/31", true),
+        (b"a b c !10.0.0.0/8 *", false),
+        (b"a b c * !10.0.0.0/8", true),
+        (b"a b c !11.0.0.0/8 *", true),
+        (b"a b c 10.9.8.7/8", true),
+        (b"a b c 200.9.8.7/0", true),
+        (b"a b c 10.0.0.0/32 0000000010.0.0.2", false),
+        (b"a b c", false),
+    ];
+    for (text, allowed) in rows {
+        let secrets = Secrets::read(rt.alloc(), text).ok().ok_or("lawful")?;
+        assert_eq!(rt; secrets.allows(1, [10, 0, 0, 1]), allowed);
+    }
+    Ok(())
+}
