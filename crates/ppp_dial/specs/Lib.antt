@@ -1,0 +1,5 @@
+pub mod Happened
+pub mod LookingBack
+pub mod DialLaw
+pub mod Rules
+pub mod DialState

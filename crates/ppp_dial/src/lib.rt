@@ -1,0 +1,21 @@
+//! When a link dials again, as pppd(8) has it: the options `persist`, `demand`, `holdoff` and `maxfail`.
+//!
+//! `Dial` is a machine over moments. It is told that the link starts, that a packet wakes it, of signals, of the time and
+//! of each session's end, and answers what is to be done: begin an attempt, hold off, wait for a packet, or finish with an
+//! exit status. It does no input or output and takes no memory.
+//!
+//! Which answers may come, over a whole list of calls, is `DialLaw` of specs/DialLaw.antt.
+#![tactic(auto)]
+
+mod dial;
+mod laws;
+mod now;
+mod policy;
+mod session_end;
+mod stage;
+
+pub use dial::Dial;
+pub use laws::{a_hang_up_in_a_hold, an_idle_end, the_least_room, two_failures};
+pub use now::DialNow;
+pub use policy::DialPolicy;
+pub use session_end::SessionEnd;
