@@ -4,18 +4,21 @@ use Rattle.ppp_dial.specs.declared.now.DialNow.{DialNow}
 use Rattle.ppp_dial.specs.declared.now.DialNow.TheVariants.{Nothing, Begin, Hold, Wait, Finish}
 use Rattle.ppp_dial.specs.declared.policy.DialPolicy.{DialPolicy}
 use Rattle.ppp_dial.specs.declared.session_end.SessionEnd.{SessionEnd}
-use Rattle.ppp_dial.specs.Happened.{CallKind, Start, Wake, Hup, Tick, SessionOver, Stop, DialCall, Happened}
+use Rattle.ppp_dial.specs.declared.call.CallKind.{CallKind}
+use Rattle.ppp_dial.specs.declared.call.CallKind.TheVariants.{Start, Wake, Hup, Tick, SessionOver, Stop}
+use Rattle.ppp_dial.specs.Happened.{DialCall, Happened}
 use Rattle.ppp_dial.specs.LookingBack.{SoFar, failures_with, so_far, is_new, is_under_way, holds_until, is_waiting, finished_with, has_come}
 
--- `maxfail` is a limit unless it is 0. The session that is over counts too.
-abbrev pub has_failed_often : DialPolicy → SoFar → SessionEnd → Bool
-has_failed_often policy s end = not (policy.maxfail == 0) && nat_le policy.maxfail (failures_with (SessionOver end) s.failures)
+-- `maxfail` is a limit on the failures in a row, unless it is 0.
+abbrev pub has_failed_often : ℕ → ℕ → Bool
+has_failed_often maxfail failures = not (maxfail == 0) && nat_le maxfail failures
 
--- With which status a link finishes at a session's end: after a stop with 5; else, without `persist` or by `maxfail`, with the session's.
+-- With which status a link finishes at a session's end, which counts as a failure too where it is one: after a stop with 5; else, without `persist` or
+-- by `maxfail`, with the session's.
 abbrev pub last_status : DialPolicy → SoFar → SessionEnd → Option ℕ
 last_status policy s end =
     if s.stopped then Some 5
-    else if not policy.persist || has_failed_often policy s end then Some end.status
+    else if not policy.persist || has_failed_often policy.maxfail (failures_with (SessionOver end) s.failures) then Some end.status
     else None
 
 -- whether the link dials again after a session's end
@@ -80,6 +83,11 @@ is_allowed policy s call (Hold ms) = leads_to_hold call.kind policy s && ms == p
 is_allowed policy s call (Finish status) =
     is_status status (finishes_with call.kind policy s) || would_begin policy s call && nat_lt call.room 1024 && status == 34
 is_allowed policy s call Nothing = is_passed_over call.kind s call.at
+
+-- A session's end is told only while an attempt is under way.
+abbrev pub MayCome : CallKind → SoFar → Type 0
+MayCome (SessionOver end) s = is_under_way s ≡ true
+MayCome _ s = ⊤
 
 -- The law of dialling: each call was answered as the calls before it allow. The newest call comes first; `before` is what came before the list.
 abbrev pub DialLaw : DialPolicy → SoFar → List Happened → Type 0

@@ -1,12 +1,14 @@
 -- How a dial stands for the calls that it was asked.
-use Rattle.std.specs.Prelude.{ℕ, ◌+◌, ◌≡◌, min, Option, None, Some, List}
+use Rattle.std.specs.Prelude.{ℕ, ◌+◌, ◌^◌, ◌≤◌, ◌≡◌, min, List, ⊤}
 use Rattle.ppp_dial.specs.declared.dial.Dial.{Dial}
 use Rattle.ppp_dial.specs.declared.now.DialNow.{DialNow}
 use Rattle.ppp_dial.specs.declared.now.DialNow.TheVariants.{Nothing, Begin, Hold, Wait, Finish}
 use Rattle.ppp_dial.specs.declared.policy.DialPolicy.{DialPolicy}
 use Rattle.ppp_dial.specs.declared.stage.Stage.{Stage}
 use Rattle.ppp_dial.specs.declared.stage.Stage.TheVariants.{New, Dialling, Holding, Waiting, Finished}
-use Rattle.ppp_dial.specs.Happened.{CallKind, Happened}
+use Rattle.ppp_dial.specs.declared.call.CallKind.{CallKind}
+use Rattle.ppp_dial.specs.declared.call.CallKind.TheVariants.{SessionOver}
+use Rattle.ppp_dial.specs.Happened.{Happened}
 use Rattle.ppp_dial.specs.LookingBack.{SoFar, so_far}
 use Rattle.ppp_dial.specs.DialLaw.{DialLaw}
 
@@ -27,10 +29,11 @@ pub record StandsFor (before : SoFar) (dial : Dial) (calls : List Happened) : Ty
   pub state : dial ≡ dial_of dial.policy (so_far before calls)
   pub law : DialLaw dial.policy before calls
 
--- a call with its answer
-abbrev pub happened : CallKind → ℕ → ℕ → DialNow → Happened
-happened kind at room answer = record { call = record { kind = kind; at = at; room = room }; answer = answer }
-
 -- an attempt is under way
 abbrev pub IsUnderWay : Dial → Type 0
 IsUnderWay dial = dial.stage ≡ Dialling
+
+-- A session's end is told only while an attempt is under way, and at a moment of at most 2^56.
+abbrev pub MayBeTold : CallKind → Dial → ℕ → Type 0
+MayBeTold (SessionOver end) dial at = IsUnderWay dial × (at ≤ 2 ^ 56)
+MayBeTold _ dial at = ⊤

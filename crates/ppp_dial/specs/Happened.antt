@@ -1,17 +1,9 @@
 -- What happened to a dial: a list of its calls, each with its answer, the newest first.
 use Rattle.std.specs.Prelude.{ℕ}
+use Rattle.ppp_dial.specs.declared.call.CallKind.{CallKind}
 use Rattle.ppp_dial.specs.declared.now.DialNow.{DialNow}
-use Rattle.ppp_dial.specs.declared.session_end.SessionEnd.{SessionEnd}
 
-pub data CallKind : Type 0 where
-  Start : CallKind
-  Wake : CallKind
-  Hup : CallKind
-  Tick : CallKind
-  SessionOver : (end : SessionEnd) → CallKind
-  Stop : CallKind
-
--- A call, with its moment in milliseconds and the room that the link's log had left. Nobody looks at those of a Stop.
+-- A call, with its moment in milliseconds and the room that the link's log had left. A Stop has 0 for both.
 pub record DialCall : Type 0 where
   pub kind : CallKind
   pub at : ℕ
@@ -24,3 +16,10 @@ pub record DialCall : Type 0 where
 pub record Happened : Type 0 where
   pub call : DialCall
   pub answer : DialNow
+
+abbrev pub asked : CallKind → ℕ → ℕ → DialCall
+asked kind at room = record { kind = kind; at = at; room = room }
+
+-- a call with its answer
+abbrev pub happened : CallKind → ℕ → ℕ → DialNow → Happened
+happened kind at room answer = record { call = asked kind at room; answer = answer }

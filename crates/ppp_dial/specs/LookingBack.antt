@@ -2,7 +2,9 @@
 use Rattle.std.specs.Prelude.{ℕ, ◌+◌, ◌||◌, nat_le, Bool, true, false, if◌then◌else◌, Option, None, Some, List, [], ◌∷◌}
 use Rattle.ppp_dial.specs.declared.now.DialNow.{DialNow}
 use Rattle.ppp_dial.specs.declared.now.DialNow.TheVariants.{Nothing, Begin, Hold, Wait, Finish}
-use Rattle.ppp_dial.specs.Happened.{CallKind, SessionOver, Stop, Happened}
+use Rattle.ppp_dial.specs.declared.call.CallKind.{CallKind}
+use Rattle.ppp_dial.specs.declared.call.CallKind.TheVariants.{SessionOver, Stop}
+use Rattle.ppp_dial.specs.Happened.{Happened}
 
 -- The last answer that wasn't Nothing, with its moment, or Nothing where there was none; how many sessions were over that weren't live, since the
 -- last that was; and whether a stop was called.

@@ -1,10 +1,13 @@
 -- The answer to each call by the order of the rules (pppd(8), "persist", "demand", "holdoff" and "maxfail").
-use Rattle.std.specs.Prelude.{ℕ, ◌*◌, ◌==◌, ◌&&◌, ◌||◌, not, nat_lt, Bool, true, false, if◌then◌else◌, Option, None, Some, is_some, is_none}
+use Rattle.std.specs.Prelude.{ℕ, ◌*◌, ◌==◌, ◌||◌, not, nat_lt, Bool, if◌then◌else◌, is_some}
 use Rattle.ppp_dial.specs.declared.now.DialNow.{DialNow}
 use Rattle.ppp_dial.specs.declared.now.DialNow.TheVariants.{Nothing, Begin, Hold, Wait, Finish}
 use Rattle.ppp_dial.specs.declared.policy.DialPolicy.{DialPolicy}
 use Rattle.ppp_dial.specs.declared.session_end.SessionEnd.{SessionEnd}
-use Rattle.ppp_dial.specs.Happened.{CallKind, Start, Wake, Hup, Tick, SessionOver, Stop, DialCall}
+use Rattle.ppp_dial.specs.declared.call.CallKind.{CallKind}
+use Rattle.ppp_dial.specs.declared.call.CallKind.TheVariants.{Start, Wake, Hup, Tick, SessionOver, Stop}
+use Rattle.ppp_dial.specs.DialLaw.{has_failed_often}
+use Rattle.ppp_dial.specs.Happened.{DialCall}
 use Rattle.ppp_dial.specs.LookingBack.{SoFar, failures_with, is_new, is_under_way, holds_until, is_waiting, finished_with, has_come}
 
 -- an attempt, where there is room
@@ -20,7 +23,7 @@ abbrev pub after_session : DialPolicy → Bool → ℕ → SessionEnd → ℕ �
 after_session policy stopped failures end room =
     if stopped then Finish 5
     else if not policy.persist then Finish end.status
-    else if not (policy.maxfail == 0) && not (nat_lt failures policy.maxfail) then Finish end.status
+    else if has_failed_often policy.maxfail failures then Finish end.status
     else if end.cause == 12 then next policy room
     else if policy.holdoff_s == 0 then next policy room
     else Hold (policy.holdoff_s * 1000)

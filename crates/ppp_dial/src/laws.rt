@@ -1,9 +1,9 @@
 // Laws of the definitions that the contracts cite.
 ghost use Rattle.std.specs.Prelude.{[], ◌∷◌, true, false};
 ghost use Rattle.ppp_dial.specs.DialLaw.{DialLaw};
-ghost use Rattle.ppp_dial.specs.DialState.{happened};
-ghost use Rattle.ppp_dial.specs.Happened.{Start, Wake, Hup, Tick, SessionOver, Stop};
+ghost use Rattle.ppp_dial.specs.Happened.{happened};
 ghost use Rattle.ppp_dial.specs.LookingBack.{nothing_yet};
+ghost use Rattle.ppp_dial.specs.declared.call.CallKind.TheVariants.{Start, Wake, Hup, Tick, SessionOver, Stop};
 ghost use Rattle.ppp_dial.specs.declared.now.DialNow.TheVariants.{Nothing, Begin, Hold, Wait, Finish};
 
 /// Each session fails with status 8: an attempt at 0, a hold, an attempt at 30,000, and the end by `maxfail`.

@@ -7,6 +7,7 @@
 //! Which answers may come, over a whole list of calls, is `DialLaw` of specs/DialLaw.antt.
 #![tactic(auto)]
 
+mod call;
 mod dial;
 mod laws;
 mod now;
