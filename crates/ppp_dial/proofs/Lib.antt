@@ -1,2 +1,4 @@
 mod Allowed
+mod LookingBackLemmas
+mod PlaceLemmas
 mod Standing

@@ -12,11 +12,19 @@ mod dial;
 mod laws;
 mod now;
 mod policy;
+mod rows;
 mod session_end;
 mod stage;
 
 pub use dial::Dial;
-pub use laws::{a_hang_up_in_a_hold, an_idle_end, the_least_room, two_failures};
+pub use laws::{
+    a_list_in_parts, each_in_its_place, exactly_one_answer, looking_back, passed_over_leaves_nothing,
+    under_way_by_calls,
+};
 pub use now::DialNow;
 pub use policy::DialPolicy;
+pub use rows::{
+    a_hang_up_in_a_hold, a_link_on_demand, a_stop, an_idle_end, failures_in_a_row, one_session,
+    the_least_room, two_failures,
+};
 pub use session_end::SessionEnd;
