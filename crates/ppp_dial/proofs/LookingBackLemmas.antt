@@ -1,16 +1,14 @@
 -- What looking back gives, by places and by parts.
-use Rattle.std.proofs.Common.{ℕ, ◌+◌, ◌≡◌, ◌≢◌, ◌||◌, Bool, true, false, cond, not, List, [], ◌∷◌, ◌++◌, All, count_by, refl, arith, sym, subst, ap, ◌∙◌}
+use Rattle.std.proofs.Common.{ℕ, ◌+◌, ◌≡◌, ◌||◌, Bool, true, false, cond, List, [], ◌∷◌, ◌++◌, All, count_by, refl, arith, ap, ◌∙◌}
 use Rattle.std.proofs.lemmas.List.Elements.{All-head, All-tail}
 use Rattle.std.proofs.lemmas.List.Sums.{sum_by-cons}
 use Rattle.ppp_dial.specs.declared.call.CallKind.{CallKind}
 use Rattle.ppp_dial.specs.declared.call.CallKind.TheVariants.{Start, Wake, Hup, Tick, SessionOver, Stop}
 use Rattle.ppp_dial.specs.declared.now.DialNow.{DialNow}
 use Rattle.ppp_dial.specs.declared.now.DialNow.TheVariants.{Nothing}
-use Rattle.ppp_dial.specs.declared.session_end.SessionEnd.{SessionEnd}
 use Rattle.ppp_dial.specs.Happened.{Happened}
 use Rattle.ppp_dial.specs.InPlace.{is_failure, is_success}
 use Rattle.ppp_dial.specs.LookingBack.{SoFar, failures_in, failures_with, is_nothing, is_stop, is_stopped_in, last_in, so_far}
-
 
 pub last-parts : (before : SoFar) (later earlier : List Happened) → last_in before (later ++ earlier) ≡ last_in (so_far before earlier) later
 last-parts before [] earlier = refl

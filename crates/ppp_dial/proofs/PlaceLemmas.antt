@@ -1,5 +1,5 @@
 -- The law at one place, and in parts.
-use Rattle.std.proofs.Common.{ℕ, ◌+◌, ◌*◌, ◌<◌, ◌≤◌, ◌≡◌, ◌≢◌, ◌↔◌, ◌&&◌, ◌||◌, Bool, true, false, cond, not, Option, Some, None, is_some, List, [], ◌∷◌, ◌++◌, inl, inr, refl, arith, sym, subst, ap, ◌∙◌}
+use Rattle.std.proofs.Common.{ℕ, ◌+◌, ◌*◌, ◌<◌, ◌≤◌, ◌≡◌, ◌≢◌, ◌||◌, Bool, true, false, cond, not, Option, Some, None, is_some, List, [], ◌∷◌, ◌++◌, inl, inr, refl, arith, sym, subst, ap}
 use Rattle.std.proofs.lemmas.Bool.{or_cases, and_parts, leb-true}
 use Rattle.std.proofs.lemmas.Bool.Decides.{nat_tests}
 use Rattle.ppp_dial.specs.declared.call.CallKind.{CallKind}
@@ -8,9 +8,8 @@ use Rattle.ppp_dial.specs.declared.now.DialNow.{DialNow}
 use Rattle.ppp_dial.specs.declared.now.DialNow.TheVariants.{Nothing, Begin, Hold, Wait, Finish}
 use Rattle.ppp_dial.specs.declared.policy.DialPolicy.{DialPolicy}
 use Rattle.ppp_dial.specs.declared.session_end.SessionEnd.{SessionEnd}
-use Rattle.ppp_dial.specs.DialLaw.{DialLaw, MayCome, is_allowed, is_status, finishes_with, last_status, is_survived, is_time_at, is_woken_by, would_begin, leads_to_hold, needs_no_hold}
+use Rattle.ppp_dial.specs.DialLaw.{DialLaw, MayCome, is_allowed, is_status, last_status, is_time_at, is_woken_by, leads_to_hold, needs_no_hold}
 use Rattle.ppp_dial.specs.InPlace.{Follows, IsSessionOver}
-use Rattle.ppp_dial.specs.Rules.{answer_to}
 use Rattle.ppp_dial.specs.Happened.{DialCall, Happened, asked}
 use Rattle.ppp_dial.specs.LookingBack.{SoFar, so_far, is_nothing, was_begun, hold_since, was_to_wait, status_of, has_come, is_stop, failures_with}
 use Rattle.ppp_dial.proofs.Allowed.{allowed_is_rule}
@@ -102,11 +101,11 @@ attempt_follows policy s call e =
     let a = and_parts _ _ e in
     let room : 1024 ≤ call.room = leb-true 1024 call.room a.1 in
     elim (or_cases _ _ a.0) [
-      inl woken ↦ (let w = woken_follows call.kind s call.at woken in (w.0, room, λ d. w.1))
-    | inr time ↦ (
-        let b = and_parts _ _ time in
-        ((time_follows call.kind policy s call.at b.0).0, room, λ d. absurd (not_demand policy.demand b.1 d))
-      )
+      | inl woken ↦ (let w = woken_follows call.kind s call.at woken in (w.0, room, λ d. w.1))
+      | inr time ↦ (
+          let b = and_parts _ _ time in
+          ((time_follows call.kind policy s call.at b.0).0, room, λ d. absurd (not_demand policy.demand b.1 d))
+          )
     ]
 
 pub wait_follows : (policy : DialPolicy) (s : SoFar) (call : DialCall) → is_allowed policy s call Wait ≡ true
@@ -147,9 +146,9 @@ over_may policy s end at room Begin e = (and_parts _ _ (and_parts _ _ (and_parts
 over_may policy s end at room (Hold ms) e = (and_parts _ _ (and_parts _ _ (and_parts _ _ e).0).0).0
 over_may policy s end at room Wait e = (and_parts _ _ (and_parts _ _ (and_parts _ _ e).0).0).0
 over_may policy s end at room (Finish status) e = elim (or_cases _ _ e) [
-    inl by_end ↦ ended_under (was_begun s.last) (last_status policy s end) status by_end
+  | inl by_end ↦ ended_under (was_begun s.last) (last_status policy s end) status by_end
   | inr by_room ↦ (and_parts _ _ (and_parts _ _ (and_parts _ _ (and_parts _ _ (and_parts _ _ by_room).0).0).0).0).0
-  ]
+]
 
 pub may_by_law : (policy : DialPolicy) (s : SoFar) (kind : CallKind) (at room : ℕ) (answer : DialNow)
     → is_allowed policy s (asked kind at room) answer ≡ true → MayCome kind s

@@ -1,10 +1,9 @@
 -- The law of dialling read at one place of a list of calls, whose newest comes first: what an answer says of the calls before it.
 use Rattle.std.specs.Prelude.{ℕ, ◌+◌, ◌≡◌, ◌≤◌, ◌⊎◌, ⊤, not, Bool, false}
 use Rattle.ppp_dial.specs.declared.call.CallKind.{CallKind}
-use Rattle.ppp_dial.specs.declared.call.CallKind.TheVariants.{Start, Wake, Hup, Tick, SessionOver, Stop}
+use Rattle.ppp_dial.specs.declared.call.CallKind.TheVariants.{Start, Wake, Hup, Tick, SessionOver}
 use Rattle.ppp_dial.specs.declared.now.DialNow.{DialNow}
 use Rattle.ppp_dial.specs.declared.now.DialNow.TheVariants.{Nothing, Begin, Hold, Wait, Finish}
-use Rattle.ppp_dial.specs.declared.session_end.SessionEnd.{SessionEnd}
 
 abbrev pub IsSessionOver : CallKind → Type 0
 IsSessionOver (SessionOver end) = ⊤

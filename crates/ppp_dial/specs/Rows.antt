@@ -1,5 +1,5 @@
 -- Short names for worked lists of calls. Each has room of 1,024 and nothing before it.
-use Rattle.std.specs.Prelude.{ℕ, Bool, true, false, List, ◌∷◌}
+use Rattle.std.specs.Prelude.{ℕ, Bool, true, false, List}
 use Rattle.ppp_dial.specs.declared.call.CallKind.{CallKind}
 use Rattle.ppp_dial.specs.declared.call.CallKind.TheVariants.{SessionOver}
 use Rattle.ppp_dial.specs.declared.now.DialNow.{DialNow}

@@ -1,110 +1,18 @@
-ghost use Rattle.std.specs.Prelude.{◌≡◌, ℕ, ◌↔◌, ◌^◌, ◌≤◌, [], ◌∷◌, ◌||◌, true, if◌then◌else◌, List, min};
-ghost use Rattle.ppp_dial.specs.DialState.{StandsFor, IsUnderWay, MayBeTold, dial_of, stage_of};
-ghost use Rattle.ppp_dial.specs.DialLaw.{has_failed_often};
+ghost use Rattle.std.specs.Prelude.{◌≡◌, ℕ, ◌↔◌, ◌^◌, ◌≤◌, [], ◌∷◌, true, List, min};
+ghost use Rattle.ppp_dial.specs.DialState.{StandsFor, IsUnderWay, MayBeTold, dial_of};
 ghost use Rattle.ppp_dial.specs.Happened.{Happened, asked, happened};
-ghost use Rattle.ppp_dial.specs.LookingBack.{SoFar, so_far, nothing_yet, failures_with, is_nothing, is_stop, is_under_way, holds_until, is_waiting, finished_with};
+ghost use Rattle.ppp_dial.specs.LookingBack.{SoFar, so_far, nothing_yet, is_under_way, holds_until, is_waiting, finished_with};
 ghost use Rattle.ppp_dial.specs.declared.call.CallKind.TheVariants.{Start, Wake, Hup, Tick, SessionOver, Stop};
-ghost use Rattle.ppp_dial.specs.Rules.{answer_to, attempt, next, after_session};
+ghost use Rattle.ppp_dial.specs.Rules.{answer_to};
 
 use crate::call::CallKind;
 use crate::now::DialNow;
 use crate::policy::DialPolicy;
+use crate::rules::{
+    STOPPED, after_session, attempt, failures_with, is_stopped_with, next, stage_after,
+};
 use crate::session_end::SessionEnd;
 use crate::stage::Stage;
-
-const IDLE: u8 = 12;
-
-const STOPPED: u8 = 5;
-
-const NO_ROOM: u8 = 34;
-
-const LEAST_ROOM: u32 = 1024;
-
-// An attempt, where the log has room for it.
-fn attempt(room: u32) -> DialNow
-    ensures { result ≡ attempt room }
-{
-    if room < LEAST_ROOM {
-        DialNow::Finish(NO_ROOM)
-    } else {
-        DialNow::Begin
-    }
-}
-
-// Under `demand` a wait, else an attempt.
-fn next(policy: DialPolicy, room: u32) -> DialNow
-    ensures { result ≡ next policy room }
-{
-    if policy.demand {
-        DialNow::Wait
-    } else {
-        attempt(room)
-    }
-}
-
-// Whether `maxfail` is a limit that the failures have reached. A count that stands still is enough to tell.
-fn has_failed_often(maxfail: u16, failures: u32) -> bool
-    ensures { (count : ℕ) → failures ≡ min count 4294967295 → result ≡ has_failed_often maxfail count }
-{
-    maxfail != 0 && failures >= u32::from(maxfail)
-}
-
-// What follows a session, where `failures` counts it too.
-fn after_session(
-    policy: DialPolicy,
-    stopped: bool,
-    failures: u32,
-    end: SessionEnd,
-    room: u32,
-) -> DialNow
-    ensures { (count : ℕ) → failures ≡ min count 4294967295 → result ≡ after_session policy stopped count end room }
-{
-    if stopped {
-        return DialNow::Finish(STOPPED);
-    }
-    if !policy.persist || has_failed_often(policy.maxfail, failures) {
-        return DialNow::Finish(end.status);
-    }
-    if end.cause == IDLE || policy.holdoff_s == 0 {
-        return next(policy, room);
-    }
-    DialNow::Hold(u32::from(policy.holdoff_s) * 1000)
-}
-
-// The failures in a row, this call counted.
-fn failures_with(call: CallKind, failures: u32) -> u32
-    ensures { result ≡ min (failures_with call failures) 4294967295 }
-{
-    match call {
-        CallKind::SessionOver(end) if end.live => 0,
-        CallKind::SessionOver(_) => failures.saturating_add(1),
-        _ => failures,
-    }
-}
-
-// Whether a stop was called, with this call or before.
-fn is_stopped_with(call: CallKind, stopped: bool) -> bool
-    ensures { result ≡ (is_stop call || stopped) }
-{
-    match call {
-        CallKind::Stop => true,
-        _ => stopped,
-    }
-}
-
-// What the dial does after an answer.
-fn stage_after(stage: Stage, answer: DialNow, now: u64) -> Stage
-    requires { (milliseconds : ℕ) → answer ≡ DialNow.Hold milliseconds → now ≤ 2 ^ 56 }
-    ensures { result ≡ if is_nothing answer then stage else stage_of (answer, now) }
-{
-    match answer {
-        DialNow::Nothing => stage,
-        DialNow::Begin => Stage::Dialling,
-        DialNow::Hold(milliseconds) => Stage::Holding(now + u64::from(milliseconds)),
-        DialNow::Wait => Stage::Waiting,
-        DialNow::Finish(status) => Stage::Finished(status),
-    }
-}
 
 /// When a link dials: told of what happens to it, it answers what is to be done. Moments are milliseconds of one clock;
 /// `room` is how many marks the link's log has room for.

@@ -13,13 +13,16 @@ mod laws;
 mod now;
 mod policy;
 mod rows;
+mod rules;
 mod session_end;
 mod stage;
+#[cfg(test)]
+mod tests;
 
 pub use dial::Dial;
 pub use laws::{
-    a_list_in_parts, each_in_its_place, exactly_one_answer, looking_back, passed_over_leaves_nothing,
-    under_way_by_calls,
+    a_list_in_parts, each_in_its_place, exactly_one_answer, looking_back,
+    passed_over_leaves_nothing, under_way_by_calls,
 };
 pub use now::DialNow;
 pub use policy::DialPolicy;
