@@ -177,9 +177,12 @@ impl Dial {
             → StandsFor before self.new (happened call now room result ∷ calls) }
     {
         let answer = self.answer_to(call, now, room);
-        self.stage = stage_after(self.stage, answer, now);
-        self.failures = failures_with(call, self.failures);
-        self.stopped = is_stopped_with(call, self.stopped);
+        let stage = stage_after(self.stage, answer, now);
+        let failures = failures_with(call, self.failures);
+        let stopped = is_stopped_with(call, self.stopped);
+        self.stage = stage;
+        self.failures = failures;
+        self.stopped = stopped;
         answer
     }
 }
