@@ -13,7 +13,7 @@ use Rattle.ppp_dial.specs.declared.session_end.SessionEnd.{SessionEnd}
 use Rattle.ppp_dial.specs.DialLaw.{MayCome, is_allowed, is_status, finishes_with, would_begin}
 use Rattle.ppp_dial.specs.Happened.{asked}
 use Rattle.ppp_dial.specs.LookingBack.{SoFar, failures_with}
-use Rattle.ppp_dial.specs.Rules.{answer_by, after_session}
+use Rattle.ppp_dial.specs.Answer.{answer_by, after_session}
 
 pub rule_is_allowed : (kind : CallKind) (policy : DialPolicy) (s : SoFar) (at room : ℕ) → MayCome kind s
     → is_allowed policy s (asked kind at room) (answer_by kind policy s at room) ≡ true

@@ -1,6 +1,6 @@
 -- The law at one place, and in parts.
-use Rattle.std.proofs.Common.{ℕ, ◌+◌, ◌*◌, ◌<◌, ◌≤◌, ◌≡◌, ◌≢◌, ◌||◌, Bool, true, false, cond, not, Option, Some, None, is_some, List, [], ◌∷◌, ◌++◌, inl, inr, refl, arith, sym, subst, ap}
-use Rattle.std.proofs.lemmas.Bool.{or_cases, and_parts, leb-true}
+use Rattle.std.proofs.Common.{ℕ, ◌+◌, ◌*◌, ◌≤◌, ◌≡◌, ◌≢◌, ◌||◌, Bool, true, false, cond, not, Option, Some, None, is_some, List, [], ◌∷◌, ◌++◌, inl, inr, refl, arith, sym, subst, ap}
+use Rattle.std.proofs.lemmas.Bool.{or_cases, or_parts, and_parts, not-true, leb-true, eqb-true, eqb-false}
 use Rattle.std.proofs.lemmas.Bool.Decides.{nat_tests}
 use Rattle.ppp_dial.specs.declared.call.CallKind.{CallKind}
 use Rattle.ppp_dial.specs.declared.call.CallKind.TheVariants.{Start, Wake, Hup, Tick, SessionOver, Stop}
@@ -8,10 +8,10 @@ use Rattle.ppp_dial.specs.declared.now.DialNow.{DialNow}
 use Rattle.ppp_dial.specs.declared.now.DialNow.TheVariants.{Nothing, Begin, Hold, Wait, Finish}
 use Rattle.ppp_dial.specs.declared.policy.DialPolicy.{DialPolicy}
 use Rattle.ppp_dial.specs.declared.session_end.SessionEnd.{SessionEnd}
-use Rattle.ppp_dial.specs.DialLaw.{DialLaw, MayCome, is_allowed, is_status, last_status, is_time_at, is_woken_by, leads_to_hold, needs_no_hold}
-use Rattle.ppp_dial.specs.InPlace.{Follows, IsSessionOver}
+use Rattle.ppp_dial.specs.DialLaw.{DialLaw, MayCome, is_allowed, is_status, last_status, is_time_at, is_woken_by, would_begin, leads_to_hold, needs_no_hold}
+use Rattle.ppp_dial.specs.InPlace.{EndsWithHold, EndsWithoutHold, Follows}
 use Rattle.ppp_dial.specs.Happened.{DialCall, Happened, asked}
-use Rattle.ppp_dial.specs.LookingBack.{SoFar, so_far, is_nothing, was_begun, hold_since, was_to_wait, status_of, has_come, is_stop, failures_with}
+use Rattle.ppp_dial.specs.LookingBack.{SoFar, so_far, is_stopped_in, is_nothing, was_begun, hold_since, was_to_wait, status_of, has_come, is_stop, failures_with}
 use Rattle.ppp_dial.proofs.Allowed.{allowed_is_rule}
 use Rattle.ppp_dial.proofs.LookingBackLemmas.{made_of, same_so_far, seen-parts}
 
@@ -33,108 +33,116 @@ pub allowed-at : (policy : DialPolicy) (before : SoFar) (later earlier : List Ha
 allowed-at policy before later earlier h l = (law-split policy before later (h ∷ earlier) l).1.0
 
 -- by which last answer a call can follow
-new_follows : (last : DialNow × ℕ) (at : ℕ) → is_nothing last.0 ≡ true → Follows last Start at
-new_follows (Nothing, since) at e = refl
-new_follows (Begin, since) at e = absurd (cc e)
-new_follows (Hold ms, since) at e = absurd (cc e)
-new_follows (Wait, since) at e = absurd (cc e)
-new_follows (Finish status, since) at e = absurd (cc e)
+new_follows : (policy : DialPolicy) (last : DialNow × ℕ) (at : ℕ) → is_nothing last.0 ≡ true → Follows policy last Start at
+new_follows policy (Nothing, since) at e = refl
+new_follows policy (Begin, since) at e = absurd (cc e)
+new_follows policy (Hold ms, since) at e = absurd (cc e)
+new_follows policy (Wait, since) at e = absurd (cc e)
+new_follows policy (Finish status, since) at e = absurd (cc e)
 
-hup_follows : (last : DialNow × ℕ) (at : ℕ) → is_some (hold_since last) ≡ true → Follows last Hup at
-hup_follows (Nothing, since) at e = absurd (cc e)
-hup_follows (Begin, since) at e = absurd (cc e)
-hup_follows (Hold ms, since) at e = inl refl
-hup_follows (Wait, since) at e = absurd (cc e)
-hup_follows (Finish status, since) at e = absurd (cc e)
+hup_follows : (policy : DialPolicy) (last : DialNow × ℕ) (at : ℕ) → is_some (hold_since last) ≡ true → Follows policy last Hup at
+hup_follows policy (Nothing, since) at e = absurd (cc e)
+hup_follows policy (Begin, since) at e = absurd (cc e)
+hup_follows policy (Hold ms, since) at e = inl refl
+hup_follows policy (Wait, since) at e = absurd (cc e)
+hup_follows policy (Finish status, since) at e = absurd (cc e)
 
-tick_follows : (last : DialNow × ℕ) (at : ℕ) → has_come at (hold_since last) ≡ true → Follows last Tick at
-tick_follows (Nothing, since) at e = absurd (cc e)
-tick_follows (Begin, since) at e = absurd (cc e)
-tick_follows (Hold ms, since) at e = inr (refl, leb-true (since + ms) at e)
-tick_follows (Wait, since) at e = absurd (cc e)
-tick_follows (Finish status, since) at e = absurd (cc e)
+tick_follows : (policy : DialPolicy) (last : DialNow × ℕ) (at : ℕ) → has_come at (hold_since last) ≡ true → Follows policy last Tick at
+tick_follows policy (Nothing, since) at e = absurd (cc e)
+tick_follows policy (Begin, since) at e = absurd (cc e)
+tick_follows policy (Hold ms, since) at e = inr (refl, leb-true (since + ms) at e)
+tick_follows policy (Wait, since) at e = absurd (cc e)
+tick_follows policy (Finish status, since) at e = absurd (cc e)
 
-over_follows : (last : DialNow × ℕ) (end : SessionEnd) (at : ℕ) → was_begun last ≡ true → Follows last (SessionOver end) at
-over_follows (Nothing, since) end at e = absurd (cc e)
-over_follows (Begin, since) end at e = tt
-over_follows (Hold ms, since) end at e = absurd (cc e)
-over_follows (Wait, since) end at e = absurd (cc e)
-over_follows (Finish status, since) end at e = absurd (cc e)
+needs_none : (policy : DialPolicy) (end : SessionEnd) → needs_no_hold policy end ≡ true → EndsWithoutHold policy (SessionOver end)
+needs_none policy end e = elim (or_cases _ _ e) [ inl idle ↦ inl (eqb-true end.cause 12 idle) | inr zero_s ↦ inr (eqb-true policy.holdoff_s 0 zero_s) ]
 
-wake_follows : (last : DialNow × ℕ) (at : ℕ) → was_to_wait last ≡ true → Follows last Wake at
-wake_follows (Nothing, since) at e = absurd (cc e)
-wake_follows (Begin, since) at e = absurd (cc e)
-wake_follows (Hold ms, since) at e = absurd (cc e)
-wake_follows (Wait, since) at e = refl
-wake_follows (Finish status, since) at e = absurd (cc e)
+over_follows : (policy : DialPolicy) (last : DialNow × ℕ) (end : SessionEnd) (at : ℕ) → was_begun last ≡ true → needs_no_hold policy end ≡ true
+    → Follows policy last (SessionOver end) at
+over_follows policy (Nothing, since) end at e none = absurd (cc e)
+over_follows policy (Begin, since) end at e none = needs_none policy end none
+over_follows policy (Hold ms, since) end at e none = absurd (cc e)
+over_follows policy (Wait, since) end at e none = absurd (cc e)
+over_follows policy (Finish status, since) end at e none = absurd (cc e)
 
-begun : (last : DialNow × ℕ) → was_begun last ≡ true → last.0 ≡ Begin
+wake_follows : (policy : DialPolicy) (last : DialNow × ℕ) (at : ℕ) → was_to_wait last ≡ true → Follows policy last Wake at
+wake_follows policy (Nothing, since) at e = absurd (cc e)
+wake_follows policy (Begin, since) at e = absurd (cc e)
+wake_follows policy (Hold ms, since) at e = absurd (cc e)
+wake_follows policy (Wait, since) at e = refl
+wake_follows policy (Finish status, since) at e = absurd (cc e)
+
+pub begun : (last : DialNow × ℕ) → was_begun last ≡ true → last.0 ≡ Begin
 begun (Nothing, since) e = absurd (cc e)
 begun (Begin, since) e = refl
 begun (Hold ms, since) e = absurd (cc e)
 begun (Wait, since) e = absurd (cc e)
 begun (Finish status, since) e = absurd (cc e)
 
-time_follows : (kind : CallKind) (policy : DialPolicy) (s : SoFar) (at : ℕ) → is_time_at kind policy s at ≡ true → Follows s.last kind at × (kind ≢ Wake)
-time_follows Start policy s at e = (new_follows s.last at e, λ w. cc w)
+time_follows : (kind : CallKind) (policy : DialPolicy) (s : SoFar) (at : ℕ) → is_time_at kind policy s at ≡ true
+    → Follows policy s.last kind at × (kind ≢ Wake)
+time_follows Start policy s at e = (new_follows policy s.last at e, λ w. cc w)
 time_follows Wake policy s at e = absurd (cc e)
-time_follows Hup policy s at e = (hup_follows s.last at e, λ w. cc w)
-time_follows Tick policy s at e = (tick_follows s.last at e, λ w. cc w)
-time_follows (SessionOver end) policy s at e = (over_follows s.last end at (and_parts _ _ (and_parts _ _ e).0).0, λ w. cc w)
+time_follows Hup policy s at e = (hup_follows policy s.last at e, λ w. cc w)
+time_follows Tick policy s at e = (tick_follows policy s.last at e, λ w. cc w)
+time_follows (SessionOver end) policy s at e =
+    let a = and_parts _ _ e in (over_follows policy s.last end at (and_parts _ _ a.0).0 a.1, λ w. cc w)
 time_follows Stop policy s at e = absurd (cc e)
 
-woken_follows : (kind : CallKind) (s : SoFar) (at : ℕ) → is_woken_by kind s ≡ true → Follows s.last kind at × (kind ≡ Wake)
-woken_follows Start s at e = absurd (cc e)
-woken_follows Wake s at e = (wake_follows s.last at e, refl)
-woken_follows Hup s at e = absurd (cc e)
-woken_follows Tick s at e = absurd (cc e)
-woken_follows (SessionOver end) s at e = absurd (cc e)
-woken_follows Stop s at e = absurd (cc e)
+woken_follows : (kind : CallKind) (policy : DialPolicy) (s : SoFar) (at : ℕ) → is_woken_by kind s ≡ true → Follows policy s.last kind at × (kind ≡ Wake)
+woken_follows Start policy s at e = absurd (cc e)
+woken_follows Wake policy s at e = (wake_follows policy s.last at e, refl)
+woken_follows Hup policy s at e = absurd (cc e)
+woken_follows Tick policy s at e = absurd (cc e)
+woken_follows (SessionOver end) policy s at e = absurd (cc e)
+woken_follows Stop policy s at e = absurd (cc e)
 
 not_demand : (demand : Bool) → not demand ≡ true → demand ≡ true → ⊥
 not_demand true e d = cc e
 not_demand false e d = cc d
 
+pub beginning_follows : (policy : DialPolicy) (s : SoFar) (call : DialCall) → would_begin policy s call ≡ true
+    → Follows policy s.last call.kind call.at × (policy.demand ≡ true → call.kind ≡ Wake)
+beginning_follows policy s call e = elim (or_cases _ _ e) [
+  | inl woken ↦ (let w = woken_follows call.kind policy s call.at woken in (w.0, λ d. w.1))
+  | inr time ↦ (
+      let b = and_parts _ _ time in ((time_follows call.kind policy s call.at b.0).0, λ d. absurd (not_demand policy.demand b.1 d))
+      )
+]
+
 pub attempt_follows : (policy : DialPolicy) (s : SoFar) (call : DialCall) → is_allowed policy s call Begin ≡ true
-    → Follows s.last call.kind call.at × (1024 ≤ call.room) × (policy.demand ≡ true → call.kind ≡ Wake)
+    → Follows policy s.last call.kind call.at × (1024 ≤ call.room) × (policy.demand ≡ true → call.kind ≡ Wake)
 attempt_follows policy s call e =
     let a = and_parts _ _ e in
-    let room : 1024 ≤ call.room = leb-true 1024 call.room a.1 in
-    elim (or_cases _ _ a.0) [
-      | inl woken ↦ (let w = woken_follows call.kind s call.at woken in (w.0, room, λ d. w.1))
-      | inr time ↦ (
-          let b = and_parts _ _ time in
-          ((time_follows call.kind policy s call.at b.0).0, room, λ d. absurd (not_demand policy.demand b.1 d))
-          )
-    ]
+    let f = beginning_follows policy s call a.0 in (f.0, leb-true 1024 call.room a.1, f.1)
 
 pub wait_follows : (policy : DialPolicy) (s : SoFar) (call : DialCall) → is_allowed policy s call Wait ≡ true
-    → Follows s.last call.kind call.at × (policy.demand ≡ true) × (call.kind ≢ Wake)
+    → Follows policy s.last call.kind call.at × (policy.demand ≡ true) × (call.kind ≢ Wake)
 wait_follows policy s call e =
     let a = and_parts _ _ e in
     let t = time_follows call.kind policy s call.at a.0 in (t.0, a.1, t.1)
 
-hold_by : (kind : CallKind) (policy : DialPolicy) (s : SoFar) → leads_to_hold kind policy s ≡ true
-    → IsSessionOver kind × (s.last.0 ≡ Begin) × (0 < policy.holdoff_s)
+needs_one : (policy : DialPolicy) (end : SessionEnd) → not (needs_no_hold policy end) ≡ true → EndsWithHold policy (SessionOver end)
+needs_one policy end e =
+    let a = or_parts _ _ (not-true _ e) in
+    (λ idle. eqb-false end.cause 12 a.0 idle, grind (arith, nat_tests, a.1))
+
+hold_by : (kind : CallKind) (policy : DialPolicy) (s : SoFar) → leads_to_hold kind policy s ≡ true → EndsWithHold policy kind × (s.last.0 ≡ Begin)
 hold_by Start policy s e = absurd (cc e)
 hold_by Wake policy s e = absurd (cc e)
 hold_by Hup policy s e = absurd (cc e)
 hold_by Tick policy s e = absurd (cc e)
 hold_by (SessionOver end) policy s e =
-    let a = and_parts _ _ e in
-    let long : not (needs_no_hold policy end) ≡ true = a.1 in
-    (tt, begun s.last (and_parts _ _ a.0).0, grind (arith, nat_tests))
+    let a = and_parts _ _ e in (needs_one policy end a.1, begun s.last (and_parts _ _ a.0).0)
 hold_by Stop policy s e = absurd (cc e)
 
 pub hold_follows : (policy : DialPolicy) (s : SoFar) (call : DialCall) (ms : ℕ) → is_allowed policy s call (Hold ms) ≡ true
-    → IsSessionOver call.kind × (s.last.0 ≡ Begin) × (ms ≡ policy.holdoff_s * 1000) × (0 < ms)
+    → EndsWithHold policy call.kind × (s.last.0 ≡ Begin) × (ms ≡ policy.holdoff_s * 1000)
 hold_follows policy s call ms e =
     let a = and_parts _ _ e in
-    let h = hold_by call.kind policy s a.0 in
-    let is : ms ≡ policy.holdoff_s * 1000 = grind (arith, nat_tests, a.1) in
-    (h.0, h.1, is, omega (arith, h.2, is))
+    let h = hold_by call.kind policy s a.0 in (h.0, h.1, eqb-true ms (policy.holdoff_s * 1000) a.1)
 
-ended_under : (under : Bool) (how : Option ℕ) (status : ℕ) → is_status status (cond under how None) ≡ true → under ≡ true
+pub ended_under : (under : Bool) (how : Option ℕ) (status : ℕ) → is_status status (cond under how None) ≡ true → under ≡ true
 ended_under true how status e = refl
 ended_under false how status e = absurd (cc e)
 
@@ -181,27 +189,29 @@ pub nothing_follows : (policy : DialPolicy) (s : SoFar) (call : DialCall) (answe
     → status_of s.last ≡ Some status → is_allowed policy s call answer ≡ true → answer ≡ Nothing
 nothing_follows policy s call answer status is e = finished_stays policy s.last s.failures s.stopped call.kind call.at call.room answer status is e
 
--- a call that was passed over, and isn't a stop, leaves what looking back gives
-left_alone : (policy : DialPolicy) (s : SoFar) (kind : CallKind) (at room : ℕ) (answer : DialNow) → answer ≡ Nothing → kind ≢ Stop
+-- a call that was passed over, and isn't a first stop, leaves what looking back gives
+left_alone : (policy : DialPolicy) (s : SoFar) (kind : CallKind) (at room : ℕ) (answer : DialNow) → answer ≡ Nothing → (kind ≡ Stop → s.stopped ≡ true)
     → is_allowed policy s (asked kind at room) answer ≡ true → (failures_with kind s.failures ≡ s.failures) × ((is_stop kind || s.stopped) ≡ s.stopped)
-left_alone policy s Start at room answer is other e = (refl, refl)
-left_alone policy s Wake at room answer is other e = (refl, refl)
-left_alone policy s Hup at room answer is other e = (refl, refl)
-left_alone policy s Tick at room answer is other e = (refl, refl)
-left_alone policy s (SessionOver end) at room answer is other e =
+left_alone policy s Start at room answer is again e = (refl, refl)
+left_alone policy s Wake at room answer is again e = (refl, refl)
+left_alone policy s Hup at room answer is again e = (refl, refl)
+left_alone policy s Tick at room answer is again e = (refl, refl)
+left_alone policy s (SessionOver end) at room answer is again e =
     absurd (let never : false ≡ true = subst (λ (a : DialNow). is_allowed policy s (asked (SessionOver end) at room) a ≡ true) is e in cc never)
-left_alone policy s Stop at room answer is other e = absurd (other refl)
+left_alone policy s Stop at room answer is again e = (refl, sym (again refl))
 
-unseen : (policy : DialPolicy) (before : SoFar) (earlier : List Happened) (h : Happened) → h.answer ≡ Nothing → h.call.kind ≢ Stop
+unseen : (policy : DialPolicy) (before : SoFar) (earlier : List Happened) (h : Happened) → h.answer ≡ Nothing
+    → (h.call.kind ≡ Stop → is_stopped_in before earlier ≡ true)
     → is_allowed policy (so_far before earlier) h.call h.answer ≡ true → so_far before (h ∷ earlier) ≡ so_far before earlier
-unseen policy before earlier h is other e =
+unseen policy before earlier h is again e =
     let s : SoFar = so_far before earlier in
-    let left = left_alone policy s h.call.kind h.call.at h.call.room h.answer is other e in
+    let left = left_alone policy s h.call.kind h.call.at h.call.room h.answer is again e in
     same_so_far _ _ _ _ _ _ (ap (λ (a : DialNow). cond (is_nothing a) s.last (a, h.call.at)) is) left.0 left.1
 
-pub may_be_left_out : (policy : DialPolicy) (before : SoFar) (later earlier : List Happened) (h : Happened) → h.answer ≡ Nothing → h.call.kind ≢ Stop
+pub may_be_left_out : (policy : DialPolicy) (before : SoFar) (later earlier : List Happened) (h : Happened) → h.answer ≡ Nothing
+    → (h.call.kind ≡ Stop → is_stopped_in before earlier ≡ true)
     → DialLaw policy before (later ++ h ∷ earlier) → DialLaw policy before (later ++ earlier)
-may_be_left_out policy before later earlier h is other l =
+may_be_left_out policy before later earlier h is again l =
     let parts = law-split policy before later (h ∷ earlier) l in
-    let same : so_far before (h ∷ earlier) ≡ so_far before earlier = unseen policy before earlier h is other parts.1.0 in
+    let same : so_far before (h ∷ earlier) ≡ so_far before earlier = unseen policy before earlier h is again parts.1.0 in
     law-join policy before later earlier (subst (λ (s : SoFar). DialLaw policy s later) same parts.0) parts.1.1

@@ -13,7 +13,7 @@ use Rattle.ppp_dial.specs.DialLaw.{MayCome, is_allowed}
 use Rattle.ppp_dial.specs.DialState.{StandsFor, MayBeTold, dial_of, stage_of}
 use Rattle.ppp_dial.specs.Happened.{Happened, asked, happened}
 use Rattle.ppp_dial.specs.LookingBack.{SoFar, so_far, is_nothing, is_stop, failures_with, was_begun}
-use Rattle.ppp_dial.specs.Rules.{answer_to}
+use Rattle.ppp_dial.specs.Answer.{answer_to}
 use Rattle.ppp_dial.proofs.Allowed.{rule_is_allowed}
 
 -- the dial after a call that it answered so

@@ -16,7 +16,7 @@ policy persist demand holdoff_s maxfail = record { persist = persist; demand = d
 abbrev pub at : ℕ → CallKind → DialNow → Happened
 at now kind answer = happened kind now 1024 answer
 
--- a session that failed with a status; one that was live and ended by its peer; an idle end
+-- a session that failed with a status; one that was live and ended by its peer; an idle end, live or not
 abbrev pub failed : ℕ → CallKind
 failed status = SessionOver (record { cause = 3; status = status; live = false })
 
@@ -25,6 +25,9 @@ left = SessionOver (record { cause = 15; status = 0; live = true })
 
 abbrev pub idle : CallKind
 idle = SessionOver (record { cause = 12; status = 12; live = true })
+
+abbrev pub idle_failure : CallKind
+idle_failure = SessionOver (record { cause = 12; status = 12; live = false })
 
 -- a list of calls that the law allows, the newest first
 abbrev pub IsRow : DialPolicy → List Happened → Type 0

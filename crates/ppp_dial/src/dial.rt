@@ -3,7 +3,7 @@ ghost use Rattle.ppp_dial.specs.DialState.{StandsFor, IsUnderWay, MayBeTold, dia
 ghost use Rattle.ppp_dial.specs.Happened.{Happened, asked, happened};
 ghost use Rattle.ppp_dial.specs.LookingBack.{SoFar, so_far, nothing_yet, is_under_way, holds_until, is_waiting, finished_with};
 ghost use Rattle.ppp_dial.specs.declared.call.CallKind.TheVariants.{Start, Wake, Hup, Tick, SessionOver, Stop};
-ghost use Rattle.ppp_dial.specs.Rules.{answer_to};
+ghost use Rattle.ppp_dial.specs.Answer.{answer_to};
 
 use crate::call::CallKind;
 use crate::now::DialNow;
@@ -88,8 +88,8 @@ impl Dial {
     /// The link is to stop: at once, or with the session that is under way.
     pub fn stop(&mut self) -> DialNow
         ensures policy { self.new.policy ≡ self.old.policy }
-        ensures stands { (before : SoFar) (calls : List Happened) → StandsFor before self.old calls
-            → StandsFor before self.new (happened Stop 0 0 result ∷ calls) }
+        ensures stands { (before : SoFar) (calls : List Happened) (at room : ℕ) → StandsFor before self.old calls
+            → StandsFor before self.new (happened Stop at room result ∷ calls) }
     {
         self.tell(CallKind::Stop, 0, 0)
     }
@@ -145,6 +145,14 @@ impl Dial {
             → result ≡ min (so_far before calls).failures 4294967295 }
     {
         self.failures
+    }
+
+    /// Whether a stop was called.
+    pub fn is_stopping(&self) -> bool
+        ensures past { (before : SoFar) (calls : List Happened) → StandsFor before self.now calls
+            → result ≡ (so_far before calls).stopped }
+    {
+        self.stopped
     }
 
     // The answer to a call, before it is noted.

@@ -19,15 +19,16 @@ mod stage;
 #[cfg(test)]
 mod tests;
 
+pub use call::CallKind;
 pub use dial::Dial;
 pub use laws::{
-    a_list_in_parts, each_in_its_place, exactly_one_answer, looking_back,
+    a_list_in_parts, a_stop_is_the_end, each_in_its_place, exactly_one_answer, looking_back,
     passed_over_leaves_nothing, under_way_by_calls,
 };
 pub use now::DialNow;
 pub use policy::DialPolicy;
 pub use rows::{
-    a_hang_up_in_a_hold, a_link_on_demand, a_stop, an_idle_end, failures_in_a_row, one_session,
-    the_least_room, two_failures,
+    a_hang_up_in_a_hold, a_link_on_demand, a_stop, ends_and_holds, failures_in_a_row, one_session,
+    passed_over, the_least_room, two_failures,
 };
 pub use session_end::SessionEnd;

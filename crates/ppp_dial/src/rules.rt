@@ -3,7 +3,7 @@ ghost use Rattle.std.specs.Prelude.{◌≡◌, ℕ, ◌^◌, ◌≤◌, ◌||◌
 ghost use Rattle.ppp_dial.specs.DialLaw.{has_failed_often};
 ghost use Rattle.ppp_dial.specs.DialState.{stage_of};
 ghost use Rattle.ppp_dial.specs.LookingBack.{failures_with, is_nothing, is_stop};
-ghost use Rattle.ppp_dial.specs.Rules.{attempt, next, after_session};
+ghost use Rattle.ppp_dial.specs.Answer.{attempt, next, after_session};
 
 use crate::call::CallKind;
 use crate::now::DialNow;
