@@ -1,5 +1,6 @@
 -- The law at one place, and in parts.
-use Rattle.std.proofs.Common.{ℕ, ◌+◌, ◌*◌, ◌≤◌, ◌≡◌, ◌≢◌, ◌||◌, Bool, true, false, cond, not, Option, Some, None, is_some, List, [], ◌∷◌, ◌++◌, inl, inr, refl, arith, sym, subst, ap}
+use Rattle.std.proofs.Common.{ℕ, ◌+◌, ◌*◌, ◌≤◌, ◌≡◌, ◌≢◌, ◌||◌, Bool, true, false, cond, not, Option, Some, None, is_some, List, [], ◌∷◌, ◌++◌, inl, inr, refl, arith, sym, subst, ap, ◌∙◌}
+use Rattle.std.specs.Prelude.{IsSome, ◌⊎◌, is_none}
 use Rattle.std.proofs.lemmas.Bool.{or_cases, or_parts, and_parts, not-true, leb-true, eqb-true, eqb-false}
 use Rattle.std.proofs.lemmas.Bool.Decides.{nat_tests}
 use Rattle.ppp_dial.specs.declared.call.CallKind.{CallKind}
@@ -8,10 +9,10 @@ use Rattle.ppp_dial.specs.declared.now.DialNow.{DialNow}
 use Rattle.ppp_dial.specs.declared.now.DialNow.TheVariants.{Nothing, Begin, Hold, Wait, Finish}
 use Rattle.ppp_dial.specs.declared.policy.DialPolicy.{DialPolicy}
 use Rattle.ppp_dial.specs.declared.session_end.SessionEnd.{SessionEnd}
-use Rattle.ppp_dial.specs.DialLaw.{DialLaw, MayCome, is_allowed, is_status, last_status, is_time_at, is_woken_by, would_begin, leads_to_hold, needs_no_hold}
+use Rattle.ppp_dial.specs.DialLaw.{DialLaw, MayCome, is_allowed, is_passed_over, is_status, last_status, is_time_at, is_woken_by, would_begin, leads_to_hold, needs_no_hold}
 use Rattle.ppp_dial.specs.InPlace.{EndsWithHold, EndsWithoutHold, Follows}
 use Rattle.ppp_dial.specs.Happened.{DialCall, Happened, asked}
-use Rattle.ppp_dial.specs.LookingBack.{SoFar, so_far, is_stopped_in, is_nothing, was_begun, hold_since, was_to_wait, status_of, has_come, is_stop, failures_with}
+use Rattle.ppp_dial.specs.LookingBack.{SoFar, so_far, is_stopped_in, is_nothing, was_begun, hold_since, was_to_wait, status_of, finished_with, last_in, has_come, is_stop, failures_with}
 use Rattle.ppp_dial.proofs.Allowed.{allowed_is_rule}
 use Rattle.ppp_dial.proofs.LookingBackLemmas.{made_of, same_so_far, seen-parts}
 
@@ -208,10 +209,72 @@ unseen policy before earlier h is again e =
     let left = left_alone policy s h.call.kind h.call.at h.call.room h.answer is again e in
     same_so_far _ _ _ _ _ _ (ap (λ (a : DialNow). cond (is_nothing a) s.last (a, h.call.at)) is) left.0 left.1
 
-pub may_be_left_out : (policy : DialPolicy) (before : SoFar) (later earlier : List Happened) (h : Happened) → h.answer ≡ Nothing
+-- what is passed over is told by the last answer alone
+passed_by_last : (kind : CallKind) (at : ℕ) (s t : SoFar) → s.last ≡ t.last → is_passed_over kind s at ≡ is_passed_over kind t at
+passed_by_last Start at s t e = ap (λ (l : DialNow × ℕ). not (is_nothing l.0)) e
+passed_by_last Wake at s t e = ap (λ (l : DialNow × ℕ). not (was_to_wait l)) e
+passed_by_last Hup at s t e = ap (λ (l : DialNow × ℕ). is_none (hold_since l)) e
+passed_by_last Tick at s t e = ap (λ (l : DialNow × ℕ). not (has_come at (hold_since l))) e
+passed_by_last (SessionOver end) at s t e = refl
+passed_by_last Stop at s t e = ap (λ (l : DialNow × ℕ). was_begun l || is_some (status_of l)) e
+
+-- once the link has finished, only that counts
+finished_list : (policy : DialPolicy) (s t : SoFar) (status : ℕ) (later : List Happened) → s.last ≡ t.last → status_of s.last ≡ Some status
+    → DialLaw policy s later → DialLaw policy t later × (last_in s later ≡ s.last) × (last_in t later ≡ t.last)
+finished_list policy s t status [] e is l = (tt, refl, refl)
+finished_list policy s t status (x ∷ later) e is l =
+    let r = finished_list policy s t status later e is l.1 in
+    let none : x.answer ≡ Nothing = nothing_follows policy (so_far s later) x.call x.answer status (ap status_of r.1 ∙ is) l.0 in
+    let kept : is_nothing x.answer ≡ true = ap is_nothing none in
+    let by_s : is_passed_over x.call.kind (so_far s later) x.call.at ≡ true =
+    subst (λ (a : DialNow). is_allowed policy (so_far s later) x.call a ≡ true) none l.0
+    in
+    let by_t : is_passed_over x.call.kind (so_far t later) x.call.at ≡ true =
+    sym (passed_by_last x.call.kind x.call.at (so_far s later) (so_far t later) (r.1 ∙ e ∙ sym r.2)) ∙ by_s
+    in (
+      (subst (λ (a : DialNow). is_allowed policy (so_far t later) x.call a ≡ true) (sym none) by_t, r.0),
+      ap (λ (b : Bool). cond b (last_in s later) (x.answer, x.call.at)) kept ∙ r.1,
+      ap (λ (b : Bool). cond b (last_in t later) (x.answer, x.call.at)) kept ∙ r.2,
+    )
+
+some_value : (o : Option ℕ) → IsSome o → (n : ℕ) × (o ≡ Some n)
+some_value None is = absurd (cc is)
+some_value (Some n) is = (n, refl)
+
+out_when_seen : (policy : DialPolicy) (before : SoFar) (later earlier : List Happened) (h : Happened) → h.answer ≡ Nothing
     → (h.call.kind ≡ Stop → is_stopped_in before earlier ≡ true)
     → DialLaw policy before (later ++ h ∷ earlier) → DialLaw policy before (later ++ earlier)
-may_be_left_out policy before later earlier h is again l =
+out_when_seen policy before later earlier h is again l =
     let parts = law-split policy before later (h ∷ earlier) l in
     let same : so_far before (h ∷ earlier) ≡ so_far before earlier = unseen policy before earlier h is again parts.1.0 in
     law-join policy before later earlier (subst (λ (s : SoFar). DialLaw policy s later) same parts.0) parts.1.1
+
+out_when_finished : (policy : DialPolicy) (before : SoFar) (later earlier : List Happened) (h : Happened) → h.answer ≡ Nothing
+    → IsSome (finished_with (so_far before earlier)) → DialLaw policy before (later ++ h ∷ earlier) → DialLaw policy before (later ++ earlier)
+out_when_finished policy before later earlier h is finished l =
+    let parts = law-split policy before later (h ∷ earlier) l in
+    let kept : last_in before (h ∷ earlier) ≡ last_in before earlier =
+    ap (λ (a : DialNow). cond (is_nothing a) (last_in before earlier) (a, h.call.at)) is
+    in
+    let value = some_value (finished_with (so_far before earlier)) finished in
+    law-join policy before later earlier
+    (finished_list policy (so_far before (h ∷ earlier)) (so_far before earlier) value.0 later kept (ap status_of kept ∙ value.1) parts.0).0 parts.1.1
+
+is_stop_or_not : (kind : CallKind) → (kind ≡ Stop) ⊎ (kind ≢ Stop)
+is_stop_or_not Start = inr (λ e. cc e)
+is_stop_or_not Wake = inr (λ e. cc e)
+is_stop_or_not Hup = inr (λ e. cc e)
+is_stop_or_not Tick = inr (λ e. cc e)
+is_stop_or_not (SessionOver end) = inr (λ e. cc e)
+is_stop_or_not Stop = inl refl
+
+pub may_be_left_out : (policy : DialPolicy) (before : SoFar) (later earlier : List Happened) (h : Happened) → h.answer ≡ Nothing
+    → (h.call.kind ≡ Stop → (is_stopped_in before earlier ≡ true) ⊎ IsSome (finished_with (so_far before earlier)))
+    → DialLaw policy before (later ++ h ∷ earlier) → DialLaw policy before (later ++ earlier)
+may_be_left_out policy before later earlier h is again l = elim (is_stop_or_not h.call.kind) [
+  | inl stop ↦ elim (again stop) [
+    | inl stopped ↦ out_when_seen policy before later earlier h is (λ e. stopped) l
+    | inr finished ↦ out_when_finished policy before later earlier h is finished l
+  ]
+  | inr other ↦ out_when_seen policy before later earlier h is (λ e. absurd (other e)) l
+]

@@ -77,10 +77,11 @@ pub fn a_list_in_parts()
         → DialLaw policy before (later ++ earlier) ↔ (DialLaw policy (so_far before earlier) later × DialLaw policy before earlier) }
 {}
 
-/// A call that was passed over may be left out of a list that keeps the law, unless it is the first stop.
+/// A call that was passed over may be left out of a list that keeps the law, unless it is the first stop, called
+/// while a session is under way.
 pub fn passed_over_leaves_nothing()
     ensures { (policy : DialPolicy) (before : SoFar) (later earlier : List Happened) (h : Happened) → h.answer ≡ Nothing
-        → (h.call.kind ≡ Stop → is_stopped_in before earlier ≡ true)
+        → (h.call.kind ≡ Stop → (is_stopped_in before earlier ≡ true) ⊎ IsSome (finished_with (so_far before earlier)))
         → DialLaw policy before (later ++ h ∷ earlier) → DialLaw policy before (later ++ earlier) }
 {}
 

@@ -1,5 +1,4 @@
 use super::*;
-use crate::call::CallKind;
 use std::process::Abort;
 
 const FAILED: SessionEnd = SessionEnd {
@@ -169,6 +168,7 @@ fn a_stop_waits_for_its_session(rt: HostRuntime) {
         (CallKind::Stop, 1, 5000, DialNow::Nothing),
         (CallKind::SessionOver(FAILED), 2, 5000, DialNow::Finish(5)),
     ];
-    run(&rt, POLICY, &rows);
+    let dial = run(&rt, POLICY, &rows);
+    assert!(rt; dial.is_stopping() && !dial.is_dialling());
     run(&rt, POLICY, &[(CallKind::Stop, 0, 0, DialNow::Finish(5))]);
 }
