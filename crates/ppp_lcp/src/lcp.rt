@@ -354,7 +354,8 @@ impl Lcp {
         ensures { self.new ≡ with_reply self.old packet.now }
     {
         let body = packet.body.as_slice();
-        if self.core.state() == 9 && packet.code == code::ECHO_REPLY && body.len() >= 4 && !self.is_ours(body) {
+        let in_opened = self.core.state() == 9;
+        if in_opened && packet.code == code::ECHO_REPLY && body.len() >= 4 && !self.is_ours(body) {
             self.unanswered = 0;
         }
     }
@@ -402,7 +403,11 @@ impl Lcp {
         self.echo_at = self.next_echo(now);
         let mut body = Body::new();
         body.append(&self.ours.magic.to_be_bytes());
-        out.packets.push(Packet { code: code::ECHO_REQUEST, id, body });
+        out.packets.push(Packet {
+            code: code::ECHO_REQUEST,
+            id,
+            body,
+        });
         out
     }
 

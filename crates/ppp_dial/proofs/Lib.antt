@@ -1,0 +1,7 @@
+mod Allowed
+mod FinishLemmas
+mod LookingBackLemmas
+mod PassingLemmas
+mod PlaceLemmas
+mod Standing
+mod StopLemmas

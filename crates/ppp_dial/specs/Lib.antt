@@ -1,0 +1,7 @@
+pub mod Happened
+pub mod LookingBack
+pub mod DialLaw
+pub mod Answer
+pub mod DialState
+pub mod InPlace
+pub mod Rows

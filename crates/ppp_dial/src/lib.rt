@@ -1,0 +1,34 @@
+//! When a link dials again, as pppd(8) has it: the options `persist`, `demand`, `holdoff` and `maxfail`.
+//!
+//! `Dial` is a machine over moments. It is told that the link starts, that a packet wakes it, of signals, of the time and
+//! of each session's end, and answers what is to be done: begin an attempt, hold off, wait for a packet, or finish with an
+//! exit status. It does no input or output and takes no memory.
+//!
+//! Which answers may come, over a whole list of calls, is `DialLaw` of specs/DialLaw.antt.
+#![tactic(auto)]
+
+mod call;
+mod dial;
+mod laws;
+mod now;
+mod policy;
+mod rows;
+mod rules;
+mod session_end;
+mod stage;
+#[cfg(test)]
+mod tests;
+
+pub use call::CallKind;
+pub use dial::Dial;
+pub use laws::{
+    a_list_in_parts, a_stop_is_the_end, each_in_its_place, exactly_one_answer, looking_back,
+    passed_over_leaves_nothing, under_way_by_calls,
+};
+pub use now::DialNow;
+pub use policy::DialPolicy;
+pub use rows::{
+    a_hang_up_in_a_hold, a_link_on_demand, a_stop, ends_and_holds, failures_in_a_row, one_session,
+    passed_over, the_least_room, two_failures,
+};
+pub use session_end::SessionEnd;
