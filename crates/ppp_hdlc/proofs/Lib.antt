@@ -2,6 +2,7 @@ pub mod Back
 pub mod Bits
 pub mod Division
 pub mod Escaping
+pub mod Feeding
 pub mod GoodResidue
 pub mod Headers
 pub mod Judging
@@ -10,5 +11,6 @@ pub mod Parts
 pub mod Passing
 pub mod Quiet
 pub mod Quotient
+mod Rows
 pub mod Steps
 pub mod Unescaping

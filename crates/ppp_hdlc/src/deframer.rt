@@ -1,7 +1,7 @@
 ghost use Rattle.std.specs.Prelude.{◌≡◌, ◌≢◌, ℕ, ◌<◌, ◌≤◌, ◌==◌, Bool, if◌then◌else◌, List, [], ◌∷◌, ◌++◌, length, option_map, IfOk, IfSome};
-ghost use Rattle.ppp_hdlc.specs.Frames.{Received, Frames, answer, protocol_of, without_address};
+ghost use Rattle.ppp_hdlc.specs.Frames.{Received, Frames, answer, protocol_of, without_address, told, told_of};
 ghost use Rattle.ppp_hdlc.specs.Octets.{is_flag};
-ghost use Rattle.ppp_hdlc.specs.Deframing.{StandsFor, KeepsPart, fresh};
+ghost use Rattle.ppp_hdlc.specs.Deframing.{StandsFor, KeepsPart, fresh, kept, taken, fed, judged, heard_at};
 
 use crate::checksum::residue_of;
 use crate::heard::Heard;
@@ -79,38 +79,47 @@ impl Deframer {
         ensures answer { (stream : List Received) → StandsFor self.old stream →
             Frames (stream ++ (octet, self.old.map) ∷ []) ≡ Frames stream ++ (if is_flag octet then result ∷ [] else []) }
         ensures quiet { octet ≢ 0x7e → result ≡ Heard.Nothing }
+        ensures told { (stream : List Received) → StandsFor self.old stream →
+            told (stream ++ (octet, self.old.map) ∷ []) ≡ told stream ++ told_of result }
+        ensures fed { self.new ≡ fed octet self.old }
+        ensures heard { result ≡ heard_at octet self.old }
+    {
+        let heard = self.answer_at(octet);
+        self.take(octet);
+        heard
+    }
+
+    // What an octet is answered: a flag ends the part.
+    #[tactic(auto, unfolding(crate::specs::Deframing::heard_at))]
+    fn answer_at(&self, octet: u8) -> Heard
+        ensures { result ≡ heard_at octet self.now }
     {
         if octet == FLAG {
-            let heard = judge(self.octets.as_slice(), self.is_over, self.is_escaping);
-            self.clear();
-            heard
+            judge(self.octets.as_slice(), self.is_over, self.is_escaping)
         } else {
-            self.take(octet);
             Heard::Nothing
         }
     }
 
-    /// Begins an empty part.
-    #[tactic(auto, unfolding(crate::specs::Frames::unescaped, crate::specs::Frames::ends_escaping))]
+    // Begins an empty part.
     fn clear(&mut self)
-        ensures fresh { self.new ≡ record fresh { map = self.old.map } }
-        ensures empty { KeepsPart self.new.octets self.new.is_over self.new.is_escaping [] }
+        ensures { self.new ≡ record fresh { map = self.old.map } }
     {
         self.octets.clear();
         self.is_over = false;
         self.is_escaping = false;
     }
 
-    /// Takes an octet that is no flag.
+    // Takes an octet. A flag begins an empty part.
+    #[tactic(auto, unfolding(crate::specs::Deframing::fed))]
     fn take(&mut self, octet: u8)
-        requires { octet ≢ 0x7e }
-        ensures map { self.new.map ≡ self.old.map }
-        ensures stands { (stream : List Received) → StandsFor self.old stream → StandsFor self.new (stream ++ (octet, self.old.map) ∷ []) }
+        ensures { self.new ≡ fed octet self.old }
     {
-        if is_mapped(self.map, octet) {
-            return;
-        }
-        if self.is_escaping {
+        if octet == FLAG {
+            self.clear();
+        } else if is_mapped(self.map, octet) {
+            // The sender didn't send it.
+        } else if self.is_escaping {
             self.is_escaping = false;
             self.keep(octet ^ ESCAPE_BIT);
         } else if octet == ESCAPE {
@@ -120,12 +129,9 @@ impl Deframer {
         }
     }
 
-    /// Keeps an octet of the part, while there is room.
+    // Keeps an octet of the part, while there is room.
     fn keep(&mut self, octet: u8)
-        ensures map { self.new.map ≡ self.old.map }
-        ensures escaping { self.new.is_escaping ≡ self.old.is_escaping }
-        ensures octets { self.new.octets ≡ (if length self.old.octets == 1508 then self.old.octets else self.old.octets ++ octet ∷ []) }
-        ensures over { self.new.is_over ≡ (if length self.old.octets == 1508 then Bool.true else self.old.is_over) }
+        ensures { self.new ≡ kept octet self.old }
     {
         if self.octets.len() == MOST_FRAME {
             self.is_over = true;
@@ -135,10 +141,10 @@ impl Deframer {
     }
 }
 
-/// What a flag behind a part ends.
+// What a flag behind a part ends.
 fn judge(octets: &[u8], is_over: bool, is_escaping: bool) -> Heard
     requires { length octets.now ≤ 1508 }
-    ensures { (part : List ℕ) → KeepsPart octets.now is_over is_escaping part → result ≡ answer part }
+    ensures { result ≡ judged octets.now is_over is_escaping }
 {
     if is_escaping {
         return Heard::Dropped(Reason::Aborted);
@@ -161,7 +167,7 @@ fn judge(octets: &[u8], is_over: bool, is_escaping: bool) -> Heard
     }
 }
 
-/// The protocol and the information of octets without their check sum.
+// The protocol and the information of octets without their check sum.
 fn content(octets: &[u8]) -> Option<(u16, &[u8])>
     ensures found { option_map (λ found. (found.0, found.1.now)) result ≡ protocol_of (without_address octets.now) }
     ensures within { IfSome result (λ found. length found.1.now ≤ length octets.now) }
@@ -181,7 +187,7 @@ fn content(octets: &[u8]) -> Option<(u16, &[u8])>
     }
 }
 
-/// The information as a frame's octets.
+// The information as a frame's octets.
 fn frame_of(information: &[u8]) -> Frame
     requires { length information.now ≤ 1508 }
     ensures { result ≡ information.now }

@@ -1,6 +1,6 @@
 //! What is true of the definitions, each proved of a function that does nothing.
 
-ghost use Rattle.std.specs.Prelude.{◌≡◌, ℕ, ◌+◌, ◌-◌, ◌≤◌, ◌↔◌, Bool, List, [], ◌∷◌, ◌++◌, length, take};
+ghost use Rattle.std.specs.Prelude.{◌≡◌, ℕ, ◌+◌, ◌-◌, ◌≤◌, ◌↔◌, Bool, List, [], ◌∷◌, ◌++◌, length, take, replicate};
 ghost use Rattle.ppp_base.specs.declared.send_settings.SendSettings.{SendSettings as Settings};
 ghost use Rattle.ppp_hdlc.specs.Frames.{Received, Frames, answer, stamped};
 ghost use Rattle.ppp_hdlc.specs.Encoding.{encoding, settings_for, with_fcs};
@@ -56,4 +56,11 @@ pub fn register_leaves_residue()
 /// The remainder is one: the dividend is a multiple of the divisor, and that remainder, of a lower power.
 pub fn remainder_is_of_division()
     ensures { (dividend : List Bool) → (quotient : List Bool) × IsDivision dividend quotient (remainder dividend) }
+{}
+
+/// It is the only one: each rest of a lower power that such a quotient leaves is that remainder, and of no
+/// coefficients at all the rest is 0.
+pub fn remainder_is_the_only_rest()
+    ensures only { (dividend quotient rest : List Bool) → IsDivision dividend quotient rest → rest ≡ remainder dividend }
+    ensures empty { (quotient rest : List Bool) → IsDivision [] quotient rest → rest ≡ replicate 16 Bool.false }
 {}
