@@ -65,7 +65,7 @@ taken-escaped x d stays escaping = rw (stays, escaping) refl
 taken-escape : (x : ℕ) (d : Deframing) → is_mapped d.map x ≡ false → d.is_escaping ≡ false → is_escape x ≡ true → taken x d ≡ record d { is_escaping = true }
 taken-escape x d stays whole escape = rw (stays, whole, escape) refl
 
-taken-plain : (x : ℕ) (d : Deframing) → is_mapped d.map x ≡ false → d.is_escaping ≡ false → is_escape x ≡ false → taken x d ≡ kept x d
+pub taken-plain : (x : ℕ) (d : Deframing) → is_mapped d.map x ≡ false → d.is_escaping ≡ false → is_escape x ≡ false → taken x d ≡ kept x d
 taken-plain x d stays whole other = rw (stays, whole, other) refl
 
 abbrev Keeps : List ℕ → Deframing → Type 0

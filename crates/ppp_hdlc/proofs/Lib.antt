@@ -6,11 +6,14 @@ pub mod Feeding
 pub mod GoodResidue
 pub mod Headers
 pub mod Judging
+pub mod Lanes
 pub mod Lengths
 pub mod Parts
 pub mod Passing
 pub mod Quiet
 pub mod Quotient
 mod Rows
+pub mod Spanning
 pub mod Steps
 pub mod Unescaping
+pub mod Turning

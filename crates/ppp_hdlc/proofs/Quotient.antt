@@ -1,10 +1,10 @@
 -- The long division gives a quotient and a remainder.
-use Rattle.std.proofs.Common.{◌≡◌, ℕ, zero, suc, ◌+◌, ◌≤◌, Bool, true, false, cond, List, [], ◌∷◌, ◌++◌, length, replicate, refl, sym, ap, ◌∙◌, arith, length-append, append_assoc, append-nil}
+use Rattle.std.proofs.Common.{◌≡◌, ℕ, suc, ◌+◌, Bool, true, false, cond, List, [], ◌∷◌, ◌++◌, length, replicate, refl, sym, ap, ◌∙◌, arith, length-append, append_assoc, append-nil}
 use Rattle.std.specs.Prelude.{fold}
 use Rattle.std.proofs.lemmas.List.{length-replicate}
 use Rattle.ppp_hdlc.specs.Residue.{plus, xor, zeros, divisor, bring_down, remainder}
 use Rattle.ppp_hdlc.specs.Quotient.{scaled, times_divisor, IsDivision}
-use Rattle.ppp_hdlc.proofs.Bits.{plus-nil, plus-nil_right, plus-cons, plus-append, length-plus}
+use Rattle.ppp_hdlc.proofs.Bits.{plus-nil, plus-nil_right, plus-cons, plus-none, plus-append, length-plus}
 use Rattle.ppp_hdlc.proofs.Division.{bring_down-cons, length-divisor, zeros-is}
 
 xor-assoc : (x y z : Bool) → xor (xor x y) z ≡ xor x (xor y z)
@@ -21,12 +21,6 @@ plus-assoc (x ∷ xs) (y ∷ ys) [] = rw (plus-cons x y xs ys, plus-nil_right (x
 plus-assoc (x ∷ xs) (y ∷ ys) (z ∷ zs) =
     rw (plus-cons x y xs ys, plus-cons (xor x y) z (plus xs ys) zs, plus-cons y z ys zs, plus-cons x (xor y z) xs (plus ys zs), xor-assoc x y z)
     (ap (λ l. xor x (xor y z) ∷ l) (plus-assoc xs ys zs))
-
-plus-zeros_left : (n : ℕ) (xs : List Bool) → length xs ≤ n → plus (replicate n false) xs ≡ xs
-plus-zeros_left zero [] short = plus-nil_right (replicate 0 false)
-plus-zeros_left zero (x ∷ xs) short = absurd (omega arith)
-plus-zeros_left (suc n) [] short = plus-nil_right (replicate (suc n) false)
-plus-zeros_left (suc n) (x ∷ xs) short = plus-cons false x (replicate n false) xs ∙ ap (λ l. x ∷ l) (plus-zeros_left n xs (omega arith))
 
 xor_self : (b : Bool) → xor b b ≡ false
 xor_self true = refl
@@ -68,7 +62,7 @@ step true u r d wide =
       plus-cons true false (divisor ++ replicate (length d) false) (plus (r ++ u ∷ []) divisor ++ d),
       plus-append divisor (plus (r ++ u ∷ []) divisor) (replicate (length d) false) d same,
       plus-back (r ++ u ∷ []) divisor sixteen,
-      plus-zeros_left (length d) d (omega arith),
+      plus-none (length d) d (omega arith),
     )
     (ap (λ l. true ∷ l) (append_assoc r (u ∷ []) d)))
 step false u r d wide =
@@ -80,8 +74,8 @@ step false u r d wide =
       bring_down-cons false r u,
       plus-cons false false (replicate 16 false ++ replicate (length d) false) ((r ++ u ∷ []) ++ d),
       plus-append (replicate 16 false) (r ++ u ∷ []) (replicate (length d) false) d same,
-      plus-zeros_left 16 (r ++ u ∷ []) (omega arith),
-      plus-zeros_left (length d) d (omega arith),
+      plus-none 16 (r ++ u ∷ []) (omega arith),
+      plus-none (length d) d (omega arith),
     )
     (ap (λ l. false ∷ l) (append_assoc r (u ∷ []) d)))
 
@@ -111,7 +105,7 @@ left r [] wide = record {
   quotient = [];
   as_long = refl;
   lower = wide;
-  sum = append-nil r ∙ sym (ap (λ l. plus l r) (times-nil ∙ zeros-is) ∙ plus-zeros_left 16 r (omega arith));
+  sum = append-nil r ∙ sym (ap (λ l. plus l r) (times-nil ∙ zeros-is) ∙ plus-none 16 r (omega arith));
 }
 left [] (u ∷ d) wide = absurd (omega arith)
 left (t ∷ r) (u ∷ d) wide =
@@ -192,7 +186,7 @@ highest false true k xs ys same =
 rest-is : (r d q rest : List Bool) → length r ≡ 16 → length q ≡ length d → length rest ≡ 16
     → r ++ d ≡ plus (times_divisor q) (replicate (length d) false ++ rest) → rest ≡ fold bring_down r d
 rest-is r [] [] rest wide even low sum =
-    sym (plus-zeros_left 16 rest (omega arith)) ∙ sym (ap (λ l. plus l rest) (times-nil ∙ zeros-is)) ∙ sym sum ∙ append-nil r
+    sym (plus-none 16 rest (omega arith)) ∙ sym (ap (λ l. plus l rest) (times-nil ∙ zeros-is)) ∙ sym sum ∙ append-nil r
 rest-is r [] (h ∷ q) rest wide even low sum = absurd (omega arith)
 rest-is [] (u ∷ d) q rest wide even low sum = absurd (omega arith)
 rest-is (t ∷ r) (u ∷ d) [] rest wide even low sum = absurd (omega arith)

@@ -1,13 +1,15 @@
-ghost use Rattle.std.specs.Prelude.{◌≡◌, ◌≢◌, ℕ, ◌<◌, ◌≤◌, ◌==◌, Bool, if◌then◌else◌, List, [], ◌∷◌, ◌++◌, length, option_map, IfOk, IfSome};
-ghost use Rattle.ppp_hdlc.specs.Frames.{Received, Frames, answer, protocol_of, without_address, told, told_of};
+ghost use Rattle.std.specs.Prelude.{◌≡◌, ◌≢◌, ℕ, ◌+◌, ◌<◌, ◌≤◌, ◌==◌, Bool, if◌then◌else◌, List, [], ◌∷◌, ◌++◌, length, take, slice_index, option_map, IfOk, IfSome};
+ghost use Rattle.ppp_hdlc.specs.Frames.{Received, Frames, answer, protocol_of, without_address, told, told_of, stamped};
 ghost use Rattle.ppp_hdlc.specs.Octets.{is_flag};
-ghost use Rattle.ppp_hdlc.specs.Deframing.{StandsFor, KeepsPart, fresh, kept, taken, fed, judged, heard_at};
+ghost use Rattle.ppp_hdlc.specs.Deframing.{StandsFor, fresh, kept, fed, judged, heard_at};
+ghost use Rattle.ppp_hdlc.specs.Spans.{IsSpan, Takes, fed_all};
 
 use crate::checksum::residue_of;
-use crate::heard::Heard;
+use crate::heard::{Heard, Span};
 use crate::octets::{ESCAPE, ESCAPE_BIT, FLAG, is_mapped};
 use crate::reason::Reason;
-use ppp_base::{Frame, MOST_FRAME, NoMemory};
+use crate::room::{LANES, ROOM, Room};
+use ppp_base::{Frame, NoMemory};
 use std::alloc::Global;
 use std::marker::Model;
 
@@ -24,7 +26,7 @@ const DEFAULT_MAP: u32 = 0xffff_ffff;
 #[derive(Drop)]
 pub struct Deframer {
     map: u32,
-    octets: Box<Frame>,
+    octets: Box<Room>,
     is_over: bool,
     is_escaping: bool,
 }
@@ -44,7 +46,7 @@ impl Deframer {
         ensures fresh { IfOk result (λ d. d ≡ fresh) }
         ensures stands { IfOk result (λ d. StandsFor d []) }
     {
-        let octets = Box::new(alloc, Frame::new())?;
+        let octets = Box::new(alloc, Room::new())?;
         Ok(Deframer {
             map: DEFAULT_MAP,
             octets,
@@ -89,6 +91,83 @@ impl Deframer {
         heard
     }
 
+    /// Takes the octets of a piece up to and with the first one that `feed` would answer otherwise than by
+    /// Nothing, or else all of them, and answers as `feed` would at the last one taken. An empty piece gives
+    /// Nothing.
+    pub fn feed_span(&mut self, octets: &[u8]) -> Span
+        ensures map { self.new.map ≡ self.old.map }
+        ensures stands { (stream : List Received) → StandsFor self.old stream →
+            StandsFor self.new (stream ++ stamped self.old.map (take result.used octets.now)) }
+        ensures told { (stream : List Received) → StandsFor self.old stream →
+            told (stream ++ stamped self.old.map (take result.used octets.now)) ≡ told stream ++ told_of result.heard }
+        ensures span { IsSpan octets.now self.old result.used result.heard }
+        ensures fed { self.new ≡ fed_all (take result.used octets.now) self.old }
+    {
+        let mut used = 0;
+        while used < octets.len() {
+            used = self.take_runs(octets, used);
+            if used < octets.len() {
+                let heard = self.feed(octets[used]);
+                used += 1;
+                if !heard.is_nothing() {
+                    return Span { used, heard };
+                }
+            }
+        }
+        Span {
+            used,
+            heard: Heard::Nothing,
+        }
+    }
+
+    // Takes the octets from a place on, sixteen at a time, up to a flag at most, and says how far it came.
+    fn take_runs(&mut self, octets: &[u8], from: usize) -> usize
+        requires { from ≤ length octets.now }
+        ensures { Takes octets.now from result self.old self.new }
+    {
+        let mut at = from;
+        while octets.len() - at >= LANES && self.octets.len() + LANES <= ROOM && !self.is_escaping {
+            let run = self.take_plain(octets, at);
+            at += run;
+            if run < LANES {
+                if octets[at] == FLAG {
+                    return at;
+                }
+                at = self.take_pair(octets, at);
+            }
+        }
+        at
+    }
+
+    // Takes the octets in front of sixteen that stand for themselves, and says how many they are.
+    #[inline]
+    fn take_plain(&mut self, octets: &[u8], at: usize) -> usize
+        requires sixteen { at + 16 ≤ length octets.now }
+        requires room { length self.old.octets + 16 ≤ 1508 }
+        requires whole { self.old.is_escaping ≡ Bool.false }
+        ensures within { result ≤ 16 }
+        ensures takes { Takes octets.now at (at + result) self.old self.new }
+    {
+        self.octets.append_plain(self.map, octets, at)
+    }
+
+    // Takes an octet that is no flag, and with an escape the octet behind it.
+    #[inline]
+    fn take_pair(&mut self, octets: &[u8], at: usize) -> usize
+        requires within { at < length octets.now }
+        requires other { slice_index octets.now at ≢ 0x7e }
+        ensures moves { at < result }
+        ensures takes { Takes octets.now at result self.old self.new }
+    {
+        self.take(octets[at]);
+        let next = at + 1;
+        if self.is_escaping && next < octets.len() && octets[next] != FLAG {
+            self.take(octets[next]);
+            return next + 1;
+        }
+        next
+    }
+
     // What an octet is answered: a flag ends the part.
     #[tactic(auto, unfolding(crate::specs::Deframing::heard_at))]
     fn answer_at(&self, octet: u8) -> Heard
@@ -111,6 +190,7 @@ impl Deframer {
     }
 
     // Takes an octet. A flag begins an empty part.
+    #[inline]
     #[tactic(auto, unfolding(crate::specs::Deframing::fed))]
     fn take(&mut self, octet: u8)
         ensures { self.new ≡ fed octet self.old }
@@ -130,10 +210,11 @@ impl Deframer {
     }
 
     // Keeps an octet of the part, while there is room.
+    #[inline]
     fn keep(&mut self, octet: u8)
         ensures { self.new ≡ kept octet self.old }
     {
-        if self.octets.len() == MOST_FRAME {
+        if self.octets.len() == ROOM {
             self.is_over = true;
         } else {
             self.octets.push(octet);

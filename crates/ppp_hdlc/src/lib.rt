@@ -17,11 +17,13 @@ mod heard;
 pub mod laws;
 mod octets;
 mod reason;
+mod room;
+mod words;
 
 pub use checksum::fcs;
 pub use deframer::Deframer;
 pub use encode::frame_into;
-pub use heard::Heard;
+pub use heard::{Heard, Span};
 pub use reason::Reason;
 
 #[cfg(test)]
