@@ -105,7 +105,7 @@ impl Deframer {
     {
         let mut used = 0;
         while used < octets.len() {
-            used = self.take_runs(octets, used);
+            used = self.take_to_flag(octets, used);
             if used < octets.len() {
                 let heard = self.feed(octets[used]);
                 used += 1;
@@ -118,6 +118,19 @@ impl Deframer {
             used,
             heard: Heard::Nothing,
         }
+    }
+
+    // Takes the octets from a place on up to the next flag, and says where that is.
+    fn take_to_flag(&mut self, octets: &[u8], from: usize) -> usize
+        requires { from ≤ length octets.now }
+        ensures { Takes octets.now from result self.old self.new }
+    {
+        let mut at = self.take_runs(octets, from);
+        while at < octets.len() && octets[at] != FLAG {
+            self.take(octets[at]);
+            at = self.take_runs(octets, at + 1);
+        }
+        at
     }
 
     // Takes the octets from a place on, sixteen at a time, up to a flag at most, and says how far it came.
