@@ -59,10 +59,10 @@ keeps-kept d is_escaping part x y keeps whole adds stops =
     (keeps_more d.octets (kept y d).octets d.is_over (kept y d).is_over is_escaping part x y keeps adds stops (kept-octets y d) (kept-over y d))
 
 -- what an octet is taken as, where the map doesn't have it removed
-taken-escaped : (x : ℕ) (d : Deframing) → is_mapped d.map x ≡ false → d.is_escaping ≡ true → taken x d ≡ kept (bit_xor x 32) (record d { is_escaping = false })
+pub taken-escaped : (x : ℕ) (d : Deframing) → is_mapped d.map x ≡ false → d.is_escaping ≡ true → taken x d ≡ kept (bit_xor x 32) (record d { is_escaping = false })
 taken-escaped x d stays escaping = rw (stays, escaping) refl
 
-taken-escape : (x : ℕ) (d : Deframing) → is_mapped d.map x ≡ false → d.is_escaping ≡ false → is_escape x ≡ true → taken x d ≡ record d { is_escaping = true }
+pub taken-escape : (x : ℕ) (d : Deframing) → is_mapped d.map x ≡ false → d.is_escaping ≡ false → is_escape x ≡ true → taken x d ≡ record d { is_escaping = true }
 taken-escape x d stays whole escape = rw (stays, whole, escape) refl
 
 pub taken-plain : (x : ℕ) (d : Deframing) → is_mapped d.map x ≡ false → d.is_escaping ≡ false → is_escape x ≡ false → taken x d ≡ kept x d

@@ -1,5 +1,5 @@
 -- A piece of a stream, taken run by run and octet by octet.
-use Rattle.std.proofs.Common.{◌≡◌, ◌≢◌, ℕ, zero, suc, ◌+◌, ◌-◌, ◌<◌, ◌≤◌, false, nat_eq, List, [], ◌∷◌, ◌++◌, length, take, drop, get_or, refl, sym, ap, subst, ◌∙◌, arith, inl, inr, append-nil, append_assoc, length-drop, length-append, length-take-le}
+use Rattle.std.proofs.Common.{◌≡◌, ◌≢◌, ℕ, zero, suc, bit_xor, ◌+◌, ◌-◌, ◌<◌, ◌≤◌, false, nat_eq, List, [], ◌∷◌, ◌++◌, length, take, drop, get_or, refl, sym, ap, subst, ◌∙◌, arith, inl, inr, append-nil, append_assoc, length-drop, length-append, length-take-le, Bool, true}
 use Rattle.std.proofs.Math.Seq.{take-add}
 use Rattle.std.proofs.lemmas.List.{take_more, get_or-drop, get_or-take, drop-drop, take-take}
 use Rattle.std.proofs.lemmas.List.Sums.{fold-append}
@@ -10,10 +10,10 @@ use Rattle.ppp_hdlc.specs.declared.heard.Heard.TheVariants.{Nothing}
 use Rattle.ppp_hdlc.specs.Frames.{Received, told, told_of, stamped}
 use Rattle.ppp_hdlc.specs.Octets.{is_flag, is_escape, is_mapped}
 use Rattle.ppp_hdlc.specs.Encoding.{is_escaped}
-use Rattle.ppp_hdlc.specs.Deframing.{Deframing, StandsFor, fed, heard_at}
+use Rattle.ppp_hdlc.specs.Deframing.{Deframing, StandsFor, fed, heard_at, whole_part}
 use Rattle.ppp_hdlc.specs.Spans.{IsSpan, Takes, fed_all, heard_in}
 use Rattle.ppp_hdlc.proofs.Judging.{bool_cases}
-use Rattle.ppp_hdlc.proofs.Feeding.{fed-is, taken-plain, stands_fed, told_fed, map_fed, quiet_fed}
+use Rattle.ppp_hdlc.proofs.Feeding.{fed-is, taken-plain, taken-escape, taken-escaped, stands_fed, told_fed, map_fed, quiet_fed}
 
 pub all-none : (d : Deframing) → fed_all [] d ≡ d
 unfolding fed_all
@@ -251,3 +251,39 @@ stands_span octets old new used stream new_is stands =
 
 pub map_span : (octets : List ℕ) (old new : Deframing) (used : ℕ) → new ≡ fed_all (take used octets) old → new.map ≡ old.map
 map_span octets old new used new_is = ap (λ (e : Deframing). e.map) new_is ∙ map_all (take used octets) old
+
+-- one part of the line, copied as it is
+pub takes_copied : (octets : List ℕ) (from at run map : ℕ) (start old new : List ℕ) (is_over : Bool) → Takes octets from at (whole_part map start is_over) (whole_part map old is_over)
+    → new ≡ old ++ take run (drop at octets) → run ≤ 16 → at + 16 ≤ length octets → length old + 16 ≤ 1508 → ((k : ℕ) → k < run → is_escaped map (get_or octets (at + k) 0) ≡ false)
+    → Takes octets from (at + run) (whole_part map start is_over) (whole_part map new is_over)
+takes_copied octets from at run map start old new is_over front new_is short within room plain =
+    takes_both octets from at (at + run) (whole_part map start is_over) (whole_part map old is_over) (whole_part map new is_over) front
+    (rw new_is (takes_plain octets at run (whole_part map old is_over) short within room refl plain))
+
+-- an escape and the octet behind it
+fed-pair : (x map : ℕ) (old : List ℕ) (is_over : Bool) → x ≢ 0x7e → is_mapped map x ≡ false → length old < 1508
+    → fed x (fed 0x7d (whole_part map old is_over)) ≡ whole_part map (old ++ bit_xor x 32 ∷ []) is_over
+fed-pair x map old is_over other stays room =
+    let waiting : Deframing = record { map = map; octets = old; is_over = is_over; is_escaping = true } in
+    let no_flag : is_flag x ≡ false = grind (arith, nat_tests) in
+    let some : nat_eq (length old) 1508 ≡ false = grind (arith, nat_tests) in
+    ap (λ (d : Deframing). fed x d) (fed-is 0x7d (whole_part map old is_over) ∙ taken-escape 0x7d (whole_part map old is_over) refl refl refl)
+    ∙ fed-is x (record { map = map; octets = old; is_over = is_over; is_escaping = true })
+    ∙ rw no_flag (taken-escaped x (record { map = map; octets = old; is_over = is_over; is_escaping = true }) stays refl ∙ rw some refl)
+
+pub takes_pair : (octets : List ℕ) (from at map : ℕ) (start old new : List ℕ) (is_over : Bool) → Takes octets from at (whole_part map start is_over) (whole_part map old is_over)
+    → get_or octets at 0 ≡ 0x7d → at + 2 ≤ length octets → get_or octets (at + 1) 0 ≢ 0x7e → is_mapped map (get_or octets (at + 1) 0) ≡ false → length old < 1508
+    → new ≡ old ++ bit_xor (get_or octets (at + 1) 0) 32 ∷ [] → Takes octets from (at + 2) (whole_part map start is_over) (whole_part map new is_over)
+takes_pair octets from at map start old new is_over front escape within other stays room new_is =
+    let next : at + 1 + 1 ≡ at + 2 = omega arith in
+    let first : Takes octets at (at + 1) (whole_part map old is_over) (fed (get_or octets at 0) (whole_part map old is_over)) =
+        takes_one octets at (whole_part map old is_over) (omega arith) (λ flag. absurd (omega (arith, sym escape ∙ flag))) in
+    let second : Takes octets (at + 1) (at + 1 + 1) (fed (get_or octets at 0) (whole_part map old is_over)) (fed (get_or octets (at + 1) 0) (fed (get_or octets at 0) (whole_part map old is_over))) =
+        takes_one octets (at + 1) (fed (get_or octets at 0) (whole_part map old is_over)) (omega arith) other in
+    let left : fed (get_or octets (at + 1) 0) (fed (get_or octets at 0) (whole_part map old is_over)) ≡ whole_part map new is_over =
+        ap (λ x. fed (get_or octets (at + 1) 0) (fed x (whole_part map old is_over))) escape
+        ∙ fed-pair (get_or octets (at + 1) 0) map old is_over other stays room
+        ∙ ap (λ l. whole_part map l is_over) (sym new_is) in
+    subst (λ (to : ℕ). Takes octets from to (whole_part map start is_over) (whole_part map new is_over)) next
+    (subst (λ (d : Deframing). Takes octets from (at + 1 + 1) (whole_part map start is_over) d) left
+    (takes_both octets from (at + 1) (at + 1 + 1) _ _ _ (takes_both octets from at (at + 1) _ _ _ front first) second))

@@ -23,6 +23,10 @@ pub record Deframing : Type 0 where
 abbrev pub fresh : Deframing
 fresh = record { map = 0xffff_ffff; octets = []; is_over = false; is_escaping = false }
 
+-- one that keeps these octets, and for which no escape waits
+abbrev pub whole_part : ℕ → List ℕ → Bool → Deframing
+whole_part map octets is_over = record { map = map; octets = octets; is_over = is_over; is_escaping = false }
+
 -- the part that no flag has closed yet
 abbrev pub open_part : List (List ℕ) → List ℕ
 open_part [] = []

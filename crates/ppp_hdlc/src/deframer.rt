@@ -8,7 +8,7 @@ use crate::checksum::residue_of;
 use crate::heard::{Heard, Span};
 use crate::octets::{ESCAPE, ESCAPE_BIT, FLAG, is_mapped};
 use crate::reason::Reason;
-use crate::room::{LANES, ROOM, Room};
+use crate::room::{ROOM, Room};
 use ppp_base::{Frame, NoMemory};
 use std::alloc::Global;
 use std::marker::Model;
@@ -134,51 +134,15 @@ impl Deframer {
     }
 
     // Takes the octets from a place on, sixteen at a time, up to a flag at most, and says how far it came.
+    #[inline]
     fn take_runs(&mut self, octets: &[u8], from: usize) -> usize
         requires { from ≤ length octets.now }
         ensures { Takes octets.now from result self.old self.new }
     {
-        let mut at = from;
-        while octets.len() - at >= LANES && self.octets.len() + LANES <= ROOM && !self.is_escaping {
-            let run = self.take_plain(octets, at);
-            at += run;
-            if run < LANES {
-                if octets[at] == FLAG {
-                    return at;
-                }
-                at = self.take_pair(octets, at);
-            }
+        if self.is_escaping {
+            return from;
         }
-        at
-    }
-
-    // Takes the octets in front of sixteen that stand for themselves, and says how many they are.
-    #[inline]
-    fn take_plain(&mut self, octets: &[u8], at: usize) -> usize
-        requires sixteen { at + 16 ≤ length octets.now }
-        requires room { length self.old.octets + 16 ≤ 1508 }
-        requires whole { self.old.is_escaping ≡ Bool.false }
-        ensures within { result ≤ 16 }
-        ensures takes { Takes octets.now at (at + result) self.old self.new }
-    {
-        self.octets.append_plain(self.map, octets, at)
-    }
-
-    // Takes an octet that is no flag, and with an escape the octet behind it.
-    #[inline]
-    fn take_pair(&mut self, octets: &[u8], at: usize) -> usize
-        requires within { at < length octets.now }
-        requires other { slice_index octets.now at ≢ 0x7e }
-        ensures moves { at < result }
-        ensures takes { Takes octets.now at result self.old self.new }
-    {
-        self.take(octets[at]);
-        let next = at + 1;
-        if self.is_escaping && next < octets.len() && octets[next] != FLAG {
-            self.take(octets[next]);
-            return next + 1;
-        }
-        next
+        self.octets.append_unescaped(self.map, octets, from)
     }
 
     // What an octet is answered: a flag ends the part.

@@ -1,11 +1,11 @@
 ghost use Rattle.std.specs.Prelude.{◌≡◌, ◌+◌, ◌-◌, ◌*◌, ◌≤◌, ◌<◌, ◌↔◌, [], ◌∷◌, ◌++◌, length, take, IsTrue, SomeIff};
 ghost use Rattle.std.specs.Bool.{OnTrue, OnFalse};
 ghost use Rattle.circular_buffer.specs.Buffer.{buffer};
-ghost use Rattle.ppp_hdlc.specs.Encoding.{encoding, enclosed, flagged, fcs_octets, escaped, escape, is_escaped, settings_for, address, protocol_field};
+ghost use Rattle.ppp_hdlc.specs.Encoding.{encoding, enclosed, flagged, fcs_octets, escaped, escape, settings_for, address, protocol_field};
 
 use crate::checksum::{FIRST, register_behind};
-use crate::octets::{ESCAPE, ESCAPE_BIT, FLAG, is_mapped};
-use crate::room::{LANES, Room};
+use crate::octets::{ESCAPE, ESCAPE_BIT, FLAG, must_escape};
+use crate::room::Room;
 use arrayvec::ArrayVec;
 use circular_buffer::HeapCircularBuffer;
 use ppp_base::SendSettings;
@@ -162,13 +162,6 @@ fn width_of(map: u32, octet: u8) -> usize
     if must_escape(map, octet) { 2 } else { 1 }
 }
 
-// Whether the octet is sent behind an escape.
-fn must_escape(map: u32, octet: u8) -> bool
-    ensures { result ≡ is_escaped map octet }
-{
-    octet == ESCAPE || octet == FLAG || is_mapped(map, octet)
-}
-
 // Appends these octets, escaped, in pieces that fit a room of sixteens.
 fn push_escaped(map: u32, octets: &[u8], out: &mut HeapCircularBuffer<u8>)
     requires { length out.old.items + length (escaped map octets.now) ≤ out.old.capacity }
@@ -178,40 +171,19 @@ fn push_escaped(map: u32, octets: &[u8], out: &mut HeapCircularBuffer<u8>)
     let mut at = 0;
     while at < octets.len() {
         let end = octets.len().min(at + PIECE);
-        room.clear();
         escape(map, &octets[at..end], &mut room);
         append(room.as_slice(), out);
         at = end;
     }
 }
 
-// Writes these octets, escaped, into an empty room.
+// Leaves these octets, escaped, in a room.
 fn escape(map: u32, octets: &[u8], room: &mut Room)
-    requires few { length octets.now ≤ 746 }
-    requires empty { room.old ≡ [] }
+    requires { length octets.now ≤ 746 }
     ensures { room.new ≡ escaped map octets.now }
 {
-    let at = escape_runs(map, octets, room);
+    let at = room.put_escaped(map, octets);
     escape_rest(map, octets, at, room);
-}
-
-// Writes the octets in front, sixteen at a time, and says how many are done.
-fn escape_runs(map: u32, octets: &[u8], room: &mut Room) -> usize
-    requires few { length octets.now ≤ 746 }
-    requires empty { room.old ≡ [] }
-    ensures within { result ≤ length octets.now }
-    ensures written { room.new ≡ escaped map (take result octets.now) }
-{
-    let mut at = 0;
-    while octets.len() - at >= LANES {
-        let run = room.append_plain(map, octets, at);
-        at += run;
-        if run < LANES {
-            escape_octet(map, octets[at], room);
-            at += 1;
-        }
-    }
-    at
 }
 
 // Writes the octets from a place on, one at a time.

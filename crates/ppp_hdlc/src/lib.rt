@@ -18,6 +18,7 @@ pub mod laws;
 mod octets;
 mod reason;
 mod room;
+mod runs;
 mod words;
 
 pub use checksum::fcs;

@@ -1,17 +1,13 @@
-ghost use Rattle.std.specs.Prelude.{◌≡◌, ◌≢◌, ℕ, ◌+◌, ◌<◌, ◌≤◌, Bool, [], ◌∷◌, ◌++◌, length, take, drop, slice_index};
-ghost use Rattle.std.specs.Int.{bit_at};
-ghost use Rattle.ppp_hdlc.specs.Octets.{is_mapped};
-ghost use Rattle.ppp_hdlc.specs.Encoding.{is_escaped};
+ghost use Rattle.std.specs.Prelude.{◌≡◌, ◌<◌, ◌≤◌, Bool, [], ◌∷◌, ◌++◌, length, take};
+ghost use Rattle.ppp_hdlc.specs.Encoding.{escaped};
+ghost use Rattle.ppp_hdlc.specs.Deframing.{whole_part};
+ghost use Rattle.ppp_hdlc.specs.Spans.{Takes};
 
-use crate::octets::{ESCAPE, FLAG};
+use crate::runs::{escape_runs, unescape_runs};
 use std::marker::Model;
-use std::simd::prelude::*;
 
 /// The most octets of a room.
 pub(crate) const ROOM: usize = 1508;
-
-/// How many octets are looked at together.
-pub(crate) const LANES: usize = 16;
 
 /// Octets that are written sixteen at a time, of which those in front count: up to 1,508. Contracts see
 /// those as their list.
@@ -78,67 +74,25 @@ impl Room {
         self.count += 1;
     }
 
-    /// Appends the octets in front of the sixteen from `at` on that go over the line as they are under this
-    /// map, and says how many they are. They are written at once.
-    #[inline]
-    pub(crate) fn append_plain(&mut self, map: u32, octets: &[u8], at: usize) -> usize
-        requires sixteen { at + 16 ≤ length octets.now }
-        requires room { length self.old + 16 ≤ 1508 }
-        ensures within { result ≤ 16 }
-        ensures plain { (k : ℕ) → k < result → is_escaped map (slice_index octets.now (at + k)) ≡ Bool.false }
-        ensures kept { self.new ≡ self.old ++ take result (drop at octets.now) }
+    /// Appends octets of the line from a place on, unescaped under this map, while there are sixteen and room for
+    /// as many, and says how far it came: at most up to a flag.
+    pub(crate) fn append_unescaped(&mut self, map: u32, octets: &[u8], from: usize) -> usize
+        requires { from ≤ length octets.now }
+        ensures { (is_over : Bool) → Takes octets.now from result (whole_part map self.old is_over) (whole_part map self.new is_over) }
     {
-        let lanes = u8x16::from_slice(&octets[at..]);
-        put(&mut self.octets, self.count, lanes);
-        let run = plain_in_front(map, lanes);
-        self.count += run;
-        run
+        let (at, count) = unescape_runs(map, octets, from, &mut self.octets, self.count);
+        self.count = count;
+        at
     }
-}
 
-// Puts sixteen octets in the place of those from `at` on.
-#[inline(always)]
-fn put(octets: &mut [u8], at: usize, lanes: u8x16)
-    requires { at + 16 ≤ length octets.old }
-    ensures len { length octets.new ≡ length octets.old }
-    ensures front { take (at + 16) octets.new ≡ take at octets.old ++ lanes }
-{
-    lanes.copy_to_slice(&mut octets[at..]);
-}
-
-// How many octets in front go over the line as they are. Those below 32 are all left out where the map
-// has some bit set.
-#[inline(always)]
-fn plain_in_front(map: u32, lanes: u8x16) -> usize
-    ensures within { result ≤ 16 }
-    ensures plain { (k : ℕ) → k < result → is_escaped map (slice_index lanes k) ≡ Bool.false }
-{
-    let marked = marked_as(lanes, FLAG)
-        | marked_as(lanes, ESCAPE)
-        | marked_below(lanes, least_unmapped(map));
-    (marked | 0x1_0000).trailing_zeros() as usize
-}
-
-// Bit k stands where lane k is this octet.
-#[inline(always)]
-fn marked_as(lanes: u8x16, octet: u8) -> u64
-    ensures { (k : ℕ) → k < 16 → bit_at result k ≡ 0 → slice_index lanes k ≢ octet }
-{
-    lanes.simd_eq(u8x16::splat(octet)).to_bitmask()
-}
-
-// Bit k stands where lane k is below this number.
-#[inline(always)]
-fn marked_below(lanes: u8x16, number: u8) -> u64
-    ensures { (k : ℕ) → k < 16 → bit_at result k ≡ 0 → number ≤ slice_index lanes k }
-{
-    lanes.simd_lt(u8x16::splat(number)).to_bitmask()
-}
-
-// An octet from which on no octet's bit is set in the map.
-#[inline]
-fn least_unmapped(map: u32) -> u8
-    ensures { (octet : ℕ) → result ≤ octet → is_mapped map octet ≡ Bool.false }
-{
-    if map == 0 { 0 } else { 32 }
+    /// Leaves octets in front, escaped under this map, while there are sixteen, and says how many they are.
+    pub(crate) fn put_escaped(&mut self, map: u32, octets: &[u8]) -> usize
+        requires { length octets.now ≤ 746 }
+        ensures within { result ≤ length octets.now }
+        ensures written { self.new ≡ escaped map (take result octets.now) }
+    {
+        let (at, count) = escape_runs(map, octets, &mut self.octets);
+        self.count = count;
+        at
+    }
 }

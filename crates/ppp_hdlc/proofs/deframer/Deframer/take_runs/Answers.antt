@@ -1,19 +1,18 @@
-use Rattle.std.proofs.Common.{◌+◌, arith}
-use Rattle.ppp_hdlc.proofs.Spanning.{takes_none, takes_both}
+use Rattle.std.proofs.Common.{ℕ, Bool, List, sym, subst}
+use Rattle.ppp_hdlc.specs.Deframing.{Deframing, whole_part}
+use Rattle.ppp_hdlc.specs.Spans.{Takes}
+use Rattle.ppp_hdlc.proofs.Spanning.{takes_none}
 use Rattle.ppp_hdlc.proofs.deframer.Deframer.take_runs.Goals as goal
 
-pub loop-at-init : goal.loop-at-init
-loop-at-init c = takes_none c.args.octets.now c.args.from c.args.self.now c.requires
+pub returns-then-self : goal.returns-then-self
+returns-then-self c = takes_none c.args.octets.now c.args.from c.args.self.now c.requires
 
-pub returns-then-octets-at-eq-FLAG : goal.returns-then-octets-at-eq-FLAG
-returns-then-octets-at-eq-FLAG c = takes_both _ _ c.loop-at.at _ _ c.loop-at.self _ c.loop-at.invariant c.take_plain-run.ensures.takes
-
-pub loop-at-smaller-then-run-lt-LANES : goal.loop-at-smaller-then-run-lt-LANES
-loop-at-smaller-then-run-lt-LANES c = omega (arith, c.take_pair-at.ensures.moves, c.take_pair-at.ensures.takes.within, c.take_plain-run.ensures.takes.within, c.loop-at-test.true)
-
-pub loop-at-preserved-then-run-lt-LANES : goal.loop-at-preserved-then-run-lt-LANES
-loop-at-preserved-then-run-lt-LANES c =
-    takes_both _ _ (c.loop-at.at + c.take_plain-run.result) _ _ c.take_plain-run.new.self _ (takes_both _ _ c.loop-at.at _ _ c.loop-at.self _ c.loop-at.invariant c.take_plain-run.ensures.takes) c.take_pair-at.ensures.takes
-
-pub loop-at-preserved : goal.loop-at-preserved
-loop-at-preserved c = takes_both _ _ c.loop-at.at _ _ c.loop-at.self _ c.loop-at.invariant c.take_plain-run.ensures.takes
+pub returns : goal.returns
+returns c =
+    let taken : Takes c.args.octets.now c.args.from c.append_unescaped.result (whole_part c.self.inside.map c.self.inside.octets.value c.self.inside.is_over) (whole_part c.self.inside.map c.append_unescaped.new.self c.self.inside.is_over) =
+        subst (λ (l : List ℕ). Takes c.args.octets.now c.args.from c.append_unescaped.result (whole_part c.self.inside.map l c.self.inside.is_over) (whole_part c.self.inside.map c.append_unescaped.new.self c.self.inside.is_over)) c.deref_mut.ensures.value
+        (c.append_unescaped.ensures c.self.inside.is_over) in
+    subst (λ (d : Deframing). Takes c.args.octets.now c.args.from c.append_unescaped.result d (record { map = c.self.inside.map; octets = c.append_unescaped.new.self; is_over = c.self.inside.is_over; is_escaping = c.self.inside.is_escaping }))
+    c.self.view_is
+    (subst (λ (b : Bool). Takes c.args.octets.now c.args.from c.append_unescaped.result (record { map = c.self.inside.map; octets = c.self.inside.octets.value; is_over = c.self.inside.is_over; is_escaping = b }) (record { map = c.self.inside.map; octets = c.append_unescaped.new.self; is_over = c.self.inside.is_over; is_escaping = b }))
+    (sym c.if-self.false) taken)

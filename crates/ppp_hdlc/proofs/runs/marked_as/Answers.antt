@@ -2,7 +2,7 @@ use Rattle.std.proofs.Common.{eqb, arith, w8}
 use Rattle.std.proofs.lemmas.Simd.{bitmask_splat}
 use Rattle.std.proofs.lemmas.Bool.Decides.{nat_tests}
 use Rattle.ppp_hdlc.proofs.Lanes.{unset}
-use Rattle.ppp_hdlc.proofs.room.marked_as.Goals as goal
+use Rattle.ppp_hdlc.proofs.runs.marked_as.Goals as goal
 
 pub returns : goal.returns
 returns c = λ k within none.

@@ -1,6 +1,6 @@
 use Rattle.std.specs.Prelude.{bit_or}
 use Rattle.ppp_hdlc.proofs.Lanes.{lowest_within, plain_below, masks_fit}
-use Rattle.ppp_hdlc.proofs.room.plain_in_front.Goals as goal
+use Rattle.ppp_hdlc.proofs.runs.plain_in_front.Goals as goal
 
 pub returns-clause-within : goal.returns-clause-within
 returns-clause-within c =
