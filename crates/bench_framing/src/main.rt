@@ -35,7 +35,7 @@ fn run(rt: &(impl Runtime + CpuClock + AllocGlobal)) -> io::Result<bool> {
     let task = task_of(rt)?;
     let payload = Payload::new(
         rt.alloc(),
-        task.megabytes.saturating_mul(1_000_000),
+        task.megabytes.saturating_mul(1 << 20),
         task.seed,
         task.kind,
     )?;

@@ -1,6 +1,9 @@
 use std::alloc::Global;
 use std::io;
 
+/// How many octets the yardstick draws behind those of the packets.
+const SPARE: u64 = 2048;
+
 /// What packets there are.
 #[derive(Clone, Copy, PartialEq, Eq)]
 pub(crate) enum Kind {
@@ -49,11 +52,11 @@ pub(crate) struct Payload {
 }
 
 impl Payload {
-    /// So many octets at most, the same for the same seed.
+    /// So many octets at most: the same as the yardstick's for the same seed, where they are random.
     pub(crate) fn new(alloc: Global, most: u64, seed: u64, kind: Kind) -> io::Result<Payload> {
         let mut words = Words { state: seed };
         let mut octets = Vec::new(alloc);
-        for _ in 0..most / 4 {
+        for _ in 0..(most.saturating_add(SPARE)) / 4 {
             let word = words.next();
             let bytes = if kind == Kind::Zeros {
                 [0; 4]
@@ -63,7 +66,7 @@ impl Payload {
             octets.extend_from_slice(&bytes)?;
         }
         let mut lengths = Vec::new(alloc);
-        let mut left = octets.len();
+        let mut left = usize::try_from(most).unwrap_or(0);
         for _ in 0..octets.len() {
             if left < 1500 {
                 break;
@@ -73,7 +76,7 @@ impl Payload {
             lengths.push(length)?;
             left -= usize::from(length);
         }
-        let whole = octets.len().saturating_sub(left);
+        let whole = usize::try_from(most).unwrap_or(0).saturating_sub(left);
         Ok(Payload {
             octets,
             lengths,
