@@ -13,6 +13,7 @@ pub mod Passing
 pub mod Quiet
 pub mod Quotient
 mod Rows
+pub mod SpanLaws
 pub mod Spanning
 pub mod Steps
 pub mod Unescaping

@@ -19,7 +19,7 @@ pub all-none : (d : Deframing) → fed_all [] d ≡ d
 unfolding fed_all
 all-none d = refl
 
-all-cons : (x : ℕ) (xs : List ℕ) (d : Deframing) → fed_all (x ∷ xs) d ≡ fed_all xs (fed x d)
+pub all-cons : (x : ℕ) (xs : List ℕ) (d : Deframing) → fed_all (x ∷ xs) d ≡ fed_all xs (fed x d)
 unfolding fed_all
 all-cons x xs d = refl
 
@@ -27,7 +27,7 @@ all-append : (xs ys : List ℕ) (d : Deframing) → fed_all (xs ++ ys) d ≡ fed
 unfolding fed_all
 all-append xs ys d = fold-append (λ d octet. fed octet d) d xs ys
 
-all-one : (x : ℕ) (d : Deframing) → fed_all (x ∷ []) d ≡ fed x d
+pub all-one : (x : ℕ) (d : Deframing) → fed_all (x ∷ []) d ≡ fed x d
 all-one x d = all-cons x [] d ∙ all-none (fed x d)
 
 -- what is taken in two parts

@@ -9,7 +9,7 @@ use crate::heard::{Heard, Span};
 use crate::octets::{ESCAPE, ESCAPE_BIT, FLAG, is_mapped};
 use crate::reason::Reason;
 use crate::room::{ROOM, Room};
-use ppp_base::{Frame, NoMemory};
+use ppp_base::{DEFAULT_MAP, Frame, NoMemory};
 use std::alloc::Global;
 use std::marker::Model;
 
@@ -18,9 +18,6 @@ const LEAST_FRAME: usize = 4;
 
 /// What octets with a right check sum behind them leave.
 const GOOD_RESIDUE: u16 = 0xf0b8;
-
-/// The receiving map before one is agreed.
-const DEFAULT_MAP: u32 = 0xffff_ffff;
 
 /// Finds the frames in a stream of octets. Its room is taken when it is made.
 #[derive(Drop)]

@@ -9,19 +9,10 @@ use crate::room::Room;
 use arrayvec::ArrayVec;
 use circular_buffer::HeapCircularBuffer;
 use ppp_base::SendSettings;
-
-// The protocol of link control, whose first packets are read by a peer that has agreed to nothing.
-const LCP: u16 = 0xc021;
+use ppp_base::protocol::LCP;
 
 // How many octets are escaped at a time: twice as many and sixteen more fill a room.
 const PIECE: usize = 746;
-
-// The settings before any are agreed.
-const PLAIN: SendSettings = SendSettings {
-    map: 0xffff_ffff,
-    pfc: false,
-    acfc: false,
-};
 
 /// Appends a frame with this protocol and information, or nothing where it doesn't fit. Link control's
 /// packets of the codes 1 to 7 are written in the plain way, whatever the settings say. A frame above
@@ -49,7 +40,7 @@ fn settings_at(settings: &SendSettings, protocol: u16, information: &[u8]) -> Se
     ensures { result ≡ settings_for settings.now protocol information.now }
 {
     match information {
-        [code, ..] if protocol == LCP && 0 < *code && *code < 8 => PLAIN,
+        [code, ..] if protocol == LCP && 0 < *code && *code < 8 => SendSettings::plain(),
         _ => *settings,
     }
 }

@@ -9,6 +9,8 @@ ghost use Rattle.ppp_hdlc.specs.IsRight.{IsRight};
 ghost use Rattle.ppp_hdlc.specs.Residue.{Residue, good_residue, remainder};
 ghost use Rattle.ppp_hdlc.specs.Register.{register_after};
 ghost use Rattle.ppp_hdlc.specs.Quotient.{IsDivision};
+ghost use Rattle.ppp_hdlc.specs.Deframing.{Deframing, StandsFor, fed, heard_at};
+ghost use Rattle.ppp_hdlc.specs.Spans.{IsSpan, fed_all};
 
 use crate::heard::Heard;
 
@@ -63,4 +65,13 @@ pub fn remainder_is_of_division()
 pub fn remainder_is_the_only_rest()
     ensures only { (dividend quotient rest : List Bool) → IsDivision dividend quotient rest → rest ≡ remainder dividend }
     ensures empty { (quotient rest : List Bool) → IsDivision [] quotient rest → rest ≡ replicate 16 Bool.false }
+{}
+
+/// A piece has one span and no other. That of one octet is the octet, with the answer that it is given by
+/// itself.
+pub fn a_piece_has_one_span()
+    ensures one { (octets : List ℕ) (d : Deframing) (used used' : ℕ) (heard heard' : Heard) →
+        IsSpan octets d used heard → IsSpan octets d used' heard' → (used ≡ used') × (heard ≡ heard') }
+    ensures some { (octets : List ℕ) (d : Deframing) → (used : ℕ) × (heard : Heard) × IsSpan octets d used heard }
+    ensures octet { (octet : ℕ) (d : Deframing) → IsSpan (octet ∷ []) d 1 (heard_at octet d) × (fed_all (octet ∷ []) d ≡ fed octet d) }
 {}
