@@ -1,5 +1,5 @@
 -- A piece has one span and no other.
-use Rattle.std.proofs.Common.{◌≡◌, ℕ, zero, suc, ◌+◌, ◌<◌, ◌≤◌, ◌⊎◌, List, [], ◌∷◌, length, take, get_or, refl, sym, ap, ◌∙◌, arith, inl, inr}
+use Rattle.std.proofs.Common.{◌≡◌, ℕ, zero, suc, ◌+◌, ◌<◌, ◌≤◌, ◌⊎◌, List, [], ◌∷◌, take, get_or, refl, sym, ap, ◌∙◌, arith, inl, inr}
 use Rattle.std.proofs.lemmas.Bool.{cases_lt}
 use Rattle.ppp_hdlc.specs.declared.heard.Heard.{Heard}
 use Rattle.ppp_hdlc.specs.declared.heard.Heard.TheVariants.{Nothing, Frame, Dropped}
@@ -66,13 +66,17 @@ goes-on x xs d used heard nothing span = record {
     last (suc index) is_last = heard-later x xs d index ∙ span.last index (omega (arith, is_last))
 
 pub span_some : (octets : List ℕ) (d : Deframing) → (used : ℕ) × (heard : Heard) × IsSpan octets d used heard
-span_some [] d = (0, Nothing, record {
-  within = omega arith;
-  before = λ index below. absurd (omega arith);
-  last = λ index is_last. absurd (omega arith);
-  none = λ zero. refl;
-  all = λ nothing. refl;
-})
+span_some [] d = (
+  0,
+  Nothing,
+  record {
+    within = omega arith;
+    before = λ index below. absurd (omega arith);
+    last = λ index is_last. absurd (omega arith);
+    none = λ zero. refl;
+    all = λ nothing. refl;
+  },
+)
 span_some (x ∷ xs) d =
     elim (nothing-or (heard_at x d)) [
       | inl nothing ↦ let more = span_some xs (fed x d) in (suc more.0, more.1, goes-on x xs d more.0 more.1 nothing more.2)
@@ -80,10 +84,13 @@ span_some (x ∷ xs) d =
     ]
 
 pub span_octet : (octet : ℕ) (d : Deframing) → IsSpan (octet ∷ []) d 1 (heard_at octet d) × (fed_all (octet ∷ []) d ≡ fed octet d)
-span_octet octet d = (record {
-  within = omega arith;
-  before = λ index below. absurd (omega arith);
-  last = λ index is_last. let first : index ≡ 0 = omega arith in rw first (heard-first octet [] d);
-  none = λ zero. absurd (omega (arith, zero));
-  all = λ nothing. refl;
-}, all-one octet d)
+span_octet octet d = (
+  record {
+    within = omega arith;
+    before = λ index below. absurd (omega arith);
+    last = λ index is_last. let first : index ≡ 0 = omega arith in rw first (heard-first octet [] d);
+    none = λ zero. absurd (omega (arith, zero));
+    all = λ nothing. refl;
+  },
+  all-one octet d,
+)

@@ -1,5 +1,7 @@
 -- A piece of a stream, taken run by run and octet by octet.
-use Rattle.std.proofs.Common.{◌≡◌, ◌≢◌, ℕ, zero, suc, bit_xor, ◌+◌, ◌-◌, ◌<◌, ◌≤◌, false, nat_eq, List, [], ◌∷◌, ◌++◌, length, take, drop, get_or, refl, sym, ap, subst, ◌∙◌, arith, inl, inr, append-nil, append_assoc, length-drop, length-append, length-take-le, Bool, true}
+use Rattle.std.proofs.Common.{◌≡◌, ◌≢◌, ℕ, zero, suc, bit_xor, ◌+◌, ◌-◌, ◌<◌, ◌≤◌, false, nat_eq, List, [], ◌∷◌, ◌++◌, length, take, drop, get_or, refl, sym, ap, subst, ◌∙◌, arith, inl, inr, append-nil, append_assoc, length-drop, length-append, length-take-le, Bool, true, map, cond}
+use Rattle.std.specs.List.{filter}
+use Rattle.std.proofs.lemmas.List.Elements.{filter-append}
 use Rattle.std.proofs.Math.Seq.{take-add}
 use Rattle.std.proofs.lemmas.List.{take_more, get_or-drop, get_or-take, drop-drop, take-take}
 use Rattle.std.proofs.lemmas.List.Sums.{fold-append}
@@ -7,13 +9,13 @@ use Rattle.std.proofs.lemmas.Bool.{cases_lt}
 use Rattle.std.proofs.lemmas.Bool.Decides.{nat_tests}
 use Rattle.ppp_hdlc.specs.declared.heard.Heard.{Heard}
 use Rattle.ppp_hdlc.specs.declared.heard.Heard.TheVariants.{Nothing}
-use Rattle.ppp_hdlc.specs.Frames.{Received, told, told_of, stamped}
+use Rattle.ppp_hdlc.specs.Frames.{Received, Frames, told, told_of, stamped}
 use Rattle.ppp_hdlc.specs.Octets.{is_flag, is_escape, is_mapped}
 use Rattle.ppp_hdlc.specs.Encoding.{is_escaped}
 use Rattle.ppp_hdlc.specs.Deframing.{Deframing, StandsFor, fed, heard_at, whole_part}
 use Rattle.ppp_hdlc.specs.Spans.{IsSpan, Takes, fed_all, heard_in}
 use Rattle.ppp_hdlc.proofs.Judging.{bool_cases}
-use Rattle.ppp_hdlc.proofs.Feeding.{fed-is, taken-plain, taken-escape, taken-escaped, stands_fed, told_fed, map_fed, quiet_fed}
+use Rattle.ppp_hdlc.proofs.Feeding.{fed-is, taken-plain, taken-escape, taken-escaped, stands_fed, answer_fed, told_fed, map_fed, quiet_fed}
 
 pub all-none : (d : Deframing) → fed_all [] d ≡ d
 unfolding fed_all
@@ -277,13 +279,65 @@ pub takes_pair : (octets : List ℕ) (from at map : ℕ) (start old new : List �
 takes_pair octets from at map start old new is_over front escape within other stays room new_is =
     let next : at + 1 + 1 ≡ at + 2 = omega arith in
     let first : Takes octets at (at + 1) (whole_part map old is_over) (fed (get_or octets at 0) (whole_part map old is_over)) =
-        takes_one octets at (whole_part map old is_over) (omega arith) (λ flag. absurd (omega (arith, sym escape ∙ flag))) in
+    takes_one octets at (whole_part map old is_over) (omega arith) (λ flag. absurd (omega (arith, sym escape ∙ flag))) in
     let second : Takes octets (at + 1) (at + 1 + 1) (fed (get_or octets at 0) (whole_part map old is_over)) (fed (get_or octets (at + 1) 0) (fed (get_or octets at 0) (whole_part map old is_over))) =
-        takes_one octets (at + 1) (fed (get_or octets at 0) (whole_part map old is_over)) (omega arith) other in
+    takes_one octets (at + 1) (fed (get_or octets at 0) (whole_part map old is_over)) (omega arith) other in
     let left : fed (get_or octets (at + 1) 0) (fed (get_or octets at 0) (whole_part map old is_over)) ≡ whole_part map new is_over =
-        ap (λ x. fed (get_or octets (at + 1) 0) (fed x (whole_part map old is_over))) escape
-        ∙ fed-pair (get_or octets (at + 1) 0) map old is_over other stays room
-        ∙ ap (λ l. whole_part map l is_over) (sym new_is) in
+    ap (λ x. fed (get_or octets (at + 1) 0) (fed x (whole_part map old is_over))) escape
+    ∙ fed-pair (get_or octets (at + 1) 0) map old is_over other stays room
+    ∙ ap (λ l. whole_part map l is_over) (sym new_is) in
     subst (λ (to : ℕ). Takes octets from to (whole_part map start is_over) (whole_part map new is_over)) next
     (subst (λ (d : Deframing). Takes octets from (at + 1 + 1) (whole_part map start is_over) d) left
     (takes_both octets from (at + 1) (at + 1 + 1) _ _ _ (takes_both octets from at (at + 1) _ _ _ front first) second))
+
+-- Nothing for each flag of octets that are answered by nothing else
+nothings : List ℕ → List Heard
+nothings xs = map (λ _. Nothing) (filter is_flag xs)
+
+nothings-append : (xs ys : List ℕ) → nothings (xs ++ ys) ≡ nothings xs ++ nothings ys
+unfolding nothings
+nothings-append xs ys = ap (λ l. map (λ _. Nothing) l) (filter-append is_flag xs ys) ∙ mapped (filter is_flag xs) (filter is_flag ys)
+  where
+    mapped : (vs ws : List ℕ) → map (λ _. Nothing) (vs ++ ws) ≡ map (λ _. Nothing) vs ++ map (λ _. Nothing) ws
+    mapped [] ws = refl
+    mapped (v ∷ vs) ws = ap (λ l. Nothing ∷ l) (mapped vs ws)
+
+nothings-one : (x : ℕ) → nothings (x ∷ []) ≡ cond (is_flag x) (Nothing ∷ []) []
+unfolding nothings
+nothings-one x = elim (bool_cases (is_flag x)) [ inl flag ↦ rw flag refl | inr other ↦ rw other refl ]
+
+frames-quiet : (xs : List ℕ) (d : Deframing) (stream : List Received) → ((index : ℕ) → index < length xs → heard_in xs d index ≡ Nothing) → StandsFor d stream
+    → Frames (stream ++ stamped d.map xs) ≡ Frames stream ++ nothings xs
+unfolding nothings
+frames-quiet [] d stream quiet stands = ap Frames (append-nil stream) ∙ sym (append-nil (Frames stream))
+frames-quiet (x ∷ xs) d stream quiet stands =
+    let first : heard_at x d ≡ Nothing = ap (λ (e : Deframing). heard_at x e) (sym (all-none d)) ∙ quiet 0 (omega arith) in
+    ap Frames (sym (ap (λ m. (stream ++ (x, d.map) ∷ []) ++ stamped m xs) (map_fed x d) ∙ append_assoc stream ((x, d.map) ∷ []) (stamped d.map xs)))
+    ∙ frames-quiet xs (fed x d) (stream ++ (x, d.map) ∷ []) (λ index within. ap (λ (e : Deframing). heard_at (get_or xs index 0) e) (sym (all-cons x (take index xs) d)) ∙ quiet (suc index) (omega arith)) (stands_fed d stream x stands)
+    ∙ ap (λ l. l ++ nothings xs) (answer_fed d stream x stands ∙ ap (λ h. Frames stream ++ cond (is_flag x) (h ∷ []) []) first ∙ ap (λ l. Frames stream ++ l) (sym (nothings-one x)))
+    ∙ append_assoc (Frames stream) (nothings (x ∷ [])) (nothings xs)
+    ∙ ap (λ l. Frames stream ++ l) (sym (nothings-append (x ∷ []) xs))
+
+nothings-is : (xs : List ℕ) → nothings xs ≡ map (λ _. Nothing) (filter is_flag xs)
+unfolding nothings
+nothings-is xs = refl
+
+pub frames_span : (octets : List ℕ) (d : Deframing) (used : ℕ) (heard : Heard) (stream : List Received) → IsSpan octets d used heard → StandsFor d stream → 0 < used
+    → Frames (stream ++ stamped d.map (take used octets)) ≡ (Frames stream ++ map (λ _. Nothing) (filter is_flag (take (used - 1) octets))) ++ cond (is_flag (get_or octets (used - 1) 0)) (heard ∷ []) []
+frames_span octets d zero heard stream span stands some = absurd (omega arith)
+frames_span octets d (suc n) heard stream span stands some =
+    let more : n < length octets = omega (arith, span.within) in
+    let next : suc n ≡ n + 1 = omega arith in
+    let less : suc n - 1 ≡ n = omega arith in
+    let front : Frames (stream ++ stamped d.map (take n octets)) ≡ Frames stream ++ nothings (take n octets) =
+    frames-quiet (take n octets) d stream (quiet-front octets d n (omega arith) (λ index below. span.before index (omega arith))) stands in
+    let mid : StandsFor (fed_all (take n octets) d) (stream ++ stamped d.map (take n octets)) = stands_all (take n octets) d stream stands in
+    let last : heard_at (get_or octets n 0) (fed_all (take n octets) d) ≡ heard = span.last n (omega arith) in
+    ap (λ l. Frames (stream ++ stamped d.map l)) (ap (λ m. take m octets) next ∙ take_more octets n 0 more)
+    ∙ ap (λ s. Frames (stream ++ s)) (stamped-append d.map (take n octets) (get_or octets n 0 ∷ []))
+    ∙ ap Frames (sym (append_assoc stream (stamped d.map (take n octets)) ((get_or octets n 0, d.map) ∷ [])))
+    ∙ ap (λ m. Frames ((stream ++ stamped d.map (take n octets)) ++ (get_or octets n 0, m) ∷ [])) (sym (map_all (take n octets) d))
+    ∙ answer_fed (fed_all (take n octets) d) (stream ++ stamped d.map (take n octets)) (get_or octets n 0) mid
+    ∙ ap (λ t. t ++ cond (is_flag (get_or octets n 0)) (heard_at (get_or octets n 0) (fed_all (take n octets) d) ∷ []) []) (front ∙ ap (λ l. Frames stream ++ l) (nothings-is (take n octets)))
+    ∙ ap (λ h. (Frames stream ++ map (λ _. Nothing) (filter is_flag (take n octets))) ++ cond (is_flag (get_or octets n 0)) (h ∷ []) []) last
+    ∙ ap (λ m. (Frames stream ++ map (λ _. Nothing) (filter is_flag (take m octets))) ++ cond (is_flag (get_or octets m 0)) (heard ∷ []) []) (sym less)

@@ -1,4 +1,4 @@
-ghost use Rattle.std.specs.Prelude.{◌≡◌, ◌≢◌, ℕ, ◌+◌, ◌<◌, ◌≤◌, ◌==◌, Bool, if◌then◌else◌, List, [], ◌∷◌, ◌++◌, length, take, slice_index, option_map, IfOk, IfSome};
+ghost use Rattle.std.specs.Prelude.{◌≡◌, ◌≢◌, ℕ, ◌-◌, ◌<◌, ◌≤◌, ◌==◌, Bool, if◌then◌else◌, List, [], ◌∷◌, ◌++◌, length, map, filter, take, slice_index, option_map, IfOk, IfSome};
 ghost use Rattle.ppp_hdlc.specs.Frames.{Received, Frames, answer, protocol_of, without_address, told, told_of, stamped};
 ghost use Rattle.ppp_hdlc.specs.Octets.{is_flag};
 ghost use Rattle.ppp_hdlc.specs.Deframing.{StandsFor, fresh, kept, fed, judged, heard_at};
@@ -95,6 +95,8 @@ impl Deframer {
         ensures map { self.new.map ≡ self.old.map }
         ensures stands { (stream : List Received) → StandsFor self.old stream →
             StandsFor self.new (stream ++ stamped self.old.map (take result.used octets.now)) }
+        ensures answers { (stream : List Received) → StandsFor self.old stream → 0 < result.used →
+            Frames (stream ++ stamped self.old.map (take result.used octets.now)) ≡ (Frames stream ++ map (λ _. Heard.Nothing) (filter is_flag (take (result.used - 1) octets.now))) ++ (if is_flag (slice_index octets.now (result.used - 1)) then result.heard ∷ [] else []) }
         ensures told { (stream : List Received) → StandsFor self.old stream →
             told (stream ++ stamped self.old.map (take result.used octets.now)) ≡ told stream ++ told_of result.heard }
         ensures span { IsSpan octets.now self.old result.used result.heard }

@@ -15,7 +15,13 @@ const LANES: usize = 16;
 
 /// Unescapes the octets of the line from a place on to those from `count` on in `out`, sixteen at a time: how far it
 /// came in each. It ends at an octet that is more than plain or an escape with the octet behind it.
-pub(crate) fn unescape_runs(map: u32, octets: &[u8], from: usize, out: &mut [u8], count: usize) -> (usize, usize)
+pub(crate) fn unescape_runs(
+    map: u32,
+    octets: &[u8],
+    from: usize,
+    out: &mut [u8],
+    count: usize,
+) -> (usize, usize)
     requires from { from ≤ length octets.now }
     requires count { count ≤ length out.old }
     requires long { length out.old ≡ 1508 }

@@ -1,4 +1,4 @@
-use Rattle.std.proofs.Common.{◌≡◌, ◌+◌, ◌<◌, ◌≤◌, take, length, get_or, sym, ◌∙◌, arith, length-take-le, length-set}
+use Rattle.std.proofs.Common.{◌≡◌, ◌+◌, ◌<◌, take, length, sym, ◌∙◌, arith, length-take-le, length-set}
 use Rattle.std.proofs.lemmas.List.{take_more_set}
 use Rattle.ppp_hdlc.proofs.Spanning.{takes_none, takes_copied, takes_pair}
 use Rattle.ppp_hdlc.proofs.runs.unescape_runs.Goals as goal

@@ -1,6 +1,6 @@
 use Rattle.std.proofs.Common.{◌+◌, sym, ◌∙◌}
 use Rattle.std.proofs.lemmas.Bool.{false≢true}
-use Rattle.ppp_hdlc.proofs.Spanning.{has_none, has_run, has_one, ends_fed, span_ends, span_all, told_span, stands_span, map_span}
+use Rattle.ppp_hdlc.proofs.Spanning.{has_none, has_run, has_one, ends_fed, span_ends, span_all, told_span, frames_span, stands_span, map_span}
 use Rattle.ppp_hdlc.proofs.deframer.Deframer.feed_span.Goals as goal
 
 pub loop-used-init : goal.loop-used-init
@@ -51,3 +51,13 @@ returns-clause-told c = λ stream stands.
 
 pub returns-clause-span : goal.returns-clause-span
 returns-clause-span c = span_all c.args.self.now c.loop-used.self c.args.octets.now c.loop-used.used c.loop-used.invariant c.loop-used-test.false
+
+pub returns-then-not-is_nothing-clause-answers : goal.returns-then-not-is_nothing-clause-answers
+returns-then-not-is_nothing-clause-answers c = λ stream stands some.
+    frames_span c.args.octets.now c.args.self.now (c.take_to_flag-used.result + 1) c.feed-heard.result stream
+    (span_ends c.args.self.now c.take_to_flag-used.new.self c.args.octets.now c.take_to_flag-used.result c.feed-heard.result (has_run _ c.loop-used.self _ _ c.loop-used.used _ c.loop-used.invariant c.take_to_flag-used.ensures) c.if-used-octets.true c.feed-heard.ensures.heard (λ nothing. false≢true (sym c.if-not-is_nothing.true ∙ c.is_nothing.ensures.1 nothing)))
+    stands some
+
+pub returns-clause-answers : goal.returns-clause-answers
+returns-clause-answers c = λ stream stands some.
+    frames_span c.args.octets.now c.args.self.now c.loop-used.used _ stream (span_all c.args.self.now c.loop-used.self c.args.octets.now c.loop-used.used c.loop-used.invariant c.loop-used-test.false) stands some

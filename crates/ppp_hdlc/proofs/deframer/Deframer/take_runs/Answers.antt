@@ -10,8 +10,8 @@ returns-then-self c = takes_none c.args.octets.now c.args.from c.args.self.now c
 pub returns : goal.returns
 returns c =
     let taken : Takes c.args.octets.now c.args.from c.append_unescaped.result (whole_part c.self.inside.map c.self.inside.octets.value c.self.inside.is_over) (whole_part c.self.inside.map c.append_unescaped.new.self c.self.inside.is_over) =
-        subst (λ (l : List ℕ). Takes c.args.octets.now c.args.from c.append_unescaped.result (whole_part c.self.inside.map l c.self.inside.is_over) (whole_part c.self.inside.map c.append_unescaped.new.self c.self.inside.is_over)) c.deref_mut.ensures.value
-        (c.append_unescaped.ensures c.self.inside.is_over) in
+    subst (λ (l : List ℕ). Takes c.args.octets.now c.args.from c.append_unescaped.result (whole_part c.self.inside.map l c.self.inside.is_over) (whole_part c.self.inside.map c.append_unescaped.new.self c.self.inside.is_over)) c.deref_mut.ensures.value
+    (c.append_unescaped.ensures c.self.inside.is_over) in
     subst (λ (d : Deframing). Takes c.args.octets.now c.args.from c.append_unescaped.result d (record { map = c.self.inside.map; octets = c.append_unescaped.new.self; is_over = c.self.inside.is_over; is_escaping = c.self.inside.is_escaping }))
     c.self.view_is
     (subst (λ (b : Bool). Takes c.args.octets.now c.args.from c.append_unescaped.result (record { map = c.self.inside.map; octets = c.self.inside.octets.value; is_over = c.self.inside.is_over; is_escaping = b }) (record { map = c.self.inside.map; octets = c.append_unescaped.new.self; is_over = c.self.inside.is_over; is_escaping = b }))
