@@ -12,7 +12,7 @@ use Rattle.ppp_hdlc.specs.Encoding.{enclosed, escaped, settings_for, with_fcs, b
 use Rattle.ppp_hdlc.specs.Arrives.{Arrives, IsWithin, IsFramable}
 use Rattle.ppp_hdlc.proofs.Steps.{opened, opened-flag, frames-flag}
 use Rattle.ppp_hdlc.proofs.Quiet.{IsSafe, safe-escaped, unescaped-escaped, escaping-escaped, quiet}
-use Rattle.ppp_hdlc.proofs.Judging.{answer_judged, judged}
+use Rattle.ppp_hdlc.proofs.Judging.{answer_judged, judged_whole}
 use Rattle.ppp_hdlc.proofs.GoodResidue.{good}
 use Rattle.ppp_hdlc.proofs.Headers.{content-back}
 
@@ -59,7 +59,7 @@ answered settings protocol information framable long short =
     let enough : nat_lt (length (with_fcs (body settings protocol information))) 4 ≡ false = grind (arith, nat_tests) in
     let right : (Residue (with_fcs (body settings protocol information)) == good_residue) ≡ true = eq-eqb _ _ (good (body settings protocol information)) in
     answer_judged (escaped settings.map (with_fcs (body settings protocol information))) (escaping-escaped settings.map (with_fcs (body settings protocol information))) (rw back fits) (rw back (omega arith))
-    ∙ ap judged back ∙ rw (enough, right) (ap framed (content-back settings protocol information framable))
+    ∙ ap judged_whole back ∙ rw (enough, right) (ap framed (content-back settings protocol information framable))
 
 -- the list without its last one
 before_last : (xs : List Received) (y : Received) → take (length (xs ++ y ∷ []) - 1) (xs ++ y ∷ []) ≡ xs

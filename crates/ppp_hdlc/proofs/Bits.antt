@@ -83,6 +83,12 @@ plus-zeros [] n short = plus-nil (replicate n false)
 plus-zeros (x ∷ xs) zero short = absurd (omega arith)
 plus-zeros (x ∷ xs) (suc n) short = rw (plus-cons x false xs (replicate n false), xor_false x, plus-zeros xs n (omega arith)) refl
 
+pub plus-none : (n : ℕ) (xs : List Bool) → length xs ≤ n → plus (replicate n false) xs ≡ xs
+plus-none zero [] short = plus-nil_right (replicate 0 false)
+plus-none zero (x ∷ xs) short = absurd (omega arith)
+plus-none (suc n) [] short = plus-nil_right (replicate (suc n) false)
+plus-none (suc n) (x ∷ xs) short = rw (plus-cons false x (replicate n false) xs, plus-none n xs (omega arith)) refl
+
 pub plus-ones : (n : ℕ) (xs : List Bool) → length xs ≤ n → plus (replicate n true) xs ≡ map not xs
 plus-ones zero [] short = plus-nil_right (replicate 0 true)
 plus-ones zero (x ∷ xs) short = absurd (omega arith)

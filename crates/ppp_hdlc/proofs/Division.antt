@@ -1,12 +1,13 @@
 -- The register is what the long division leaves.
-use Rattle.std.proofs.Common.{◌≡◌, ℕ, zero, suc, ◌/◌, ◌%◌, ◌^◌, ◌<◌, ◌==◌, Bool, true, false, not, cond, List, [], ◌∷◌, ◌++◌, length, map, take, drop, replicate, refl, sym, ap, ◌∙◌, arith, length-append, append_assoc, append-nil, length-take-le, take-append-drop}
+use Rattle.std.proofs.Common.{◌≡◌, ℕ, zero, suc, ◌+◌, ◌/◌, ◌%◌, ◌^◌, ◌<◌, ◌==◌, Bool, true, false, not, cond, List, [], ◌∷◌, ◌++◌, length, map, take, drop, replicate, refl, sym, ap, ◌∙◌, arith, length-append, append_assoc, append-nil, length-take-le, take-append-drop}
+use Rattle.std.proofs.Math.Seq.{take-add}
 use Rattle.std.proofs.lemmas.List.{length-map}
 use Rattle.std.proofs.lemmas.List.Sums.{fold-append}
 use Rattle.std.proofs.lemmas.Grind.{flat_map-append}
 use Rattle.std.specs.Prelude.{bit_xor, fold, flat_map}
-use Rattle.ppp_hdlc.specs.Residue.{bits, number, xor, plus, zeros, divisor, bring_down, remainder, with_first_complemented, Residue}
+use Rattle.ppp_hdlc.specs.Residue.{bits, number, xor, plus, zeros, divisor, bring_down, remainder, with_first_complemented, Residue, word_of}
 use Rattle.ppp_hdlc.specs.Register.{taken, register_after}
-use Rattle.ppp_hdlc.proofs.Bits.{bits-suc, length-bits, bits-more, number-bits, bits-number, number-below, low_xor, plus-nil, plus-cons, plus-bits, plus-zeros, plus-ones, plus-append, plus-swap, length-plus}
+use Rattle.ppp_hdlc.proofs.Bits.{bits-suc, length-bits, bits-more, number-bits, bits-number, number-below, low_xor, plus-nil, plus-cons, plus-bits, plus-zeros, plus-none, plus-ones, plus-append, plus-swap, length-plus}
 
 divisor-bits : divisor ≡ bits 16 0x8408
 unfolding divisor bits
@@ -82,6 +83,19 @@ divided bs = through (bs ++ zeros) (take 16 (bs ++ zeros)) (drop 16 (bs ++ zeros
         ∙ ap (λ z. fold bring_down z rest) (sym (plus-ones 16 w (omega arith)))
         ∙ ahead bs (replicate 16 true) w rest refl wide same
 
+-- the same where no bit is complemented: the register begins with 0
+pub divided-plainly : (bs : List Bool) → remainder (bs ++ zeros) ≡ fold taken (replicate 16 false) bs
+unfolding remainder
+divided-plainly bs = through (take 16 (bs ++ zeros)) (drop 16 (bs ++ zeros)) (length-take-le 16 (bs ++ zeros) (omega (arith, length-append bs zeros, ap length zeros-is))) (sym (take-append-drop 16 (bs ++ zeros)))
+  where
+    through : (w rest : List Bool) → length w ≡ 16 → bs ++ zeros ≡ w ++ rest → fold bring_down zeros (bs ++ zeros) ≡ fold taken (replicate 16 false) bs
+    through w rest wide same =
+        ap (λ l. fold bring_down zeros l) same
+        ∙ ap (λ z. fold bring_down z (w ++ rest)) (zeros-is ∙ sym (append-nil (replicate 16 false)))
+        ∙ brought 16 [] w rest wide
+        ∙ ap (λ z. fold bring_down z rest) (sym (plus-none 16 w (omega arith)))
+        ∙ ahead bs (replicate 16 false) w rest refl wide same
+
 ones-bits : replicate 16 true ≡ bits 16 0xffff
 unfolding bits
 ones-bits = refl
@@ -119,6 +133,14 @@ pub Residue-after : (octets : List ℕ) → Residue octets ≡ register_after 0x
 unfolding Residue
 Residue-after octets = ap number (divided (flat_map (bits 8) octets) ∙ ap (λ c. fold taken c (flat_map (bits 8) octets)) ones-bits) ∙ sym (after-is 0xffff octets)
 
+zeros-bits : replicate 16 false ≡ bits 16 0
+unfolding bits
+zeros-bits = refl
+
+pub word-after : (octets : List ℕ) → word_of octets ≡ register_after 0 octets
+unfolding word_of
+word-after octets = ap number (divided-plainly (flat_map (bits 8) octets) ∙ ap (λ c. fold taken c (flat_map (bits 8) octets)) zeros-bits) ∙ sym (after-is 0 octets)
+
 pub after-append : (register : ℕ) (xs ys : List ℕ) → register_after (register_after register xs) ys ≡ register_after register (xs ++ ys)
 after-append register xs ys =
     after-is (register_after register xs) ys
@@ -134,3 +156,7 @@ after-none register below = after-is register [] ∙ number-bits 16 register bel
 
 pub after-one : (register octet : ℕ) → register_after register (octet ∷ []) ≡ number (fold taken (bits 16 register) (bits 8 octet))
 after-one register octet = after-is register (octet ∷ []) ∙ ap (λ bs. number (fold taken (bits 16 register) bs)) (append-nil (bits 8 octet))
+
+-- one more part of the octets
+pub after-part : (register at n : ℕ) (octets : List ℕ) → register_after (register_after register (take at octets)) (take n (drop at octets)) ≡ register_after register (take (at + n) octets)
+after-part register at n octets = after-append register (take at octets) (take n (drop at octets)) ∙ ap (λ bs. register_after register bs) (sym (take-add at n octets))

@@ -16,8 +16,8 @@ pub bool_cases : (b : Bool) → (b ≡ true) ⊎ (b ≡ false)
 bool_cases b = elim b as (λ v. (v ≡ true) ⊎ (v ≡ false)) [ true ↦ inl refl | false ↦ inr refl ]
 
 -- what a whole part of these octets is
-abbrev pub judged : List ℕ → Heard
-judged octets = cond (nat_lt (length octets) 4) (Dropped Short) (cond (not (Residue octets == good_residue)) (Dropped BadFcs) (framed (content octets)))
+abbrev pub judged_whole : List ℕ → Heard
+judged_whole octets = cond (nat_lt (length octets) 4) (Dropped Short) (cond (not (Residue octets == good_residue)) (Dropped BadFcs) (framed (content octets)))
 
 answer-some : (x : ℕ) (xs : List ℕ) → answer (x ∷ xs) ≡ dropped_or (find (applies (x ∷ xs)) reasons) (framed (content (unescaped (x ∷ xs))))
 unfolding answer
@@ -48,7 +48,7 @@ pub answer_empty : (part : List ℕ) → ends_escaping part ≡ false → length
 answer_empty [] whole empty = answer-none
 answer_empty (x ∷ xs) whole empty = absurd (omega (arith, unescaped_some x xs whole))
 
-pub answer_judged : (part : List ℕ) → ends_escaping part ≡ false → nat_lt 1508 (length (unescaped part)) ≡ false → 0 < length (unescaped part) → answer part ≡ judged (unescaped part)
+pub answer_judged : (part : List ℕ) → ends_escaping part ≡ false → nat_lt 1508 (length (unescaped part)) ≡ false → 0 < length (unescaped part) → answer part ≡ judged_whole (unescaped part)
 answer_judged [] whole fits some = absurd (omega (arith, ap length unescaped-none))
 answer_judged (x ∷ xs) whole fits some = answer-some x xs ∙ rw (whole, fits) (inner (unescaped (x ∷ xs)))
   where
@@ -56,7 +56,7 @@ answer_judged (x ∷ xs) whole fits some = answer-some x xs ∙ rw (whole, fits)
     header None = refl
     header (Some found) = refl
 
-    inner : (octets : List ℕ) → dropped_or (cond (nat_lt (length octets) 4) (Some Short) (cond (not (Residue octets == good_residue)) (Some BadFcs) (cond (is_none (content octets)) (Some BadHeader) None))) (framed (content octets)) ≡ judged octets
+    inner : (octets : List ℕ) → dropped_or (cond (nat_lt (length octets) 4) (Some Short) (cond (not (Residue octets == good_residue)) (Some BadFcs) (cond (is_none (content octets)) (Some BadHeader) None))) (framed (content octets)) ≡ judged_whole octets
     inner octets =
         elim (nat_lt (length octets) 4) as (λ b. dropped_or (cond b (Some Short) (cond (not (Residue octets == good_residue)) (Some BadFcs) (cond (is_none (content octets)) (Some BadHeader) None))) (framed (content octets))
         ≡ cond b (Dropped Short) (cond (not (Residue octets == good_residue)) (Dropped BadFcs) (framed (content octets)))) [
@@ -77,7 +77,7 @@ judges_empty octets is_over is_escaping part keeps whole fits empty =
     let same : unescaped part ≡ octets = keeps_all octets is_escaping part (rw fits at keeps) in
     answer_empty part (sym keeps.escaping_is ∙ whole) (ap length same ∙ empty)
 
-pub judges : (octets : List ℕ) (is_over is_escaping : Bool) (part : List ℕ) → KeepsPart octets is_over is_escaping part → is_escaping ≡ false → is_over ≡ false → 0 < length octets → answer part ≡ judged octets
+pub judges : (octets : List ℕ) (is_over is_escaping : Bool) (part : List ℕ) → KeepsPart octets is_over is_escaping part → is_escaping ≡ false → is_over ≡ false → 0 < length octets → answer part ≡ judged_whole octets
 judges octets is_over is_escaping part keeps whole fits some =
     let same : unescaped part ≡ octets = keeps_all octets is_escaping part (rw fits at keeps) in
-    answer_judged part (sym keeps.escaping_is ∙ whole) (sym keeps.over_is ∙ fits) (rw same some) ∙ ap judged same
+    answer_judged part (sym keeps.escaping_is ∙ whole) (sym keeps.over_is ∙ fits) (rw same some) ∙ ap judged_whole same

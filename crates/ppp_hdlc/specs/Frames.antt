@@ -1,5 +1,5 @@
 -- The answers that a stream of octets gives (RFC 1662, 3 and 4), over the whole stream.
-use Rattle.std.specs.Prelude.{ℕ, ◌+◌, ◌-◌, ◌*◌, ◌%◌, ◌==◌, nat_lt, nat_eq, Bool, false, not, if◌then◌else◌, List, [], ◌∷◌, length, map, filter, find, take, drop, Option, Some, None, is_none, bit_xor}
+use Rattle.std.specs.Prelude.{ℕ, ◌+◌, ◌-◌, ◌*◌, ◌%◌, ◌==◌, nat_lt, nat_eq, Bool, false, not, if◌then◌else◌, List, [], ◌∷◌, length, map, filter, flat_map, find, take, drop, Option, Some, None, is_none, bit_xor}
 use Rattle.std.specs.List.{slice_split, starts_with}
 use Rattle.ppp_hdlc.specs.Octets.{is_flag, is_escape, is_mapped}
 use Rattle.ppp_hdlc.specs.Residue.{Residue, good_residue}
@@ -88,6 +88,16 @@ answer (octet ∷ octets) = dropped_or (find (applies (octet ∷ octets)) reason
 -- one answer for each flag of the stream
 unfoldable pub Frames : List Received → List Heard
 Frames stream = map answer (closed_parts (slice_split is_flag (kept_octets stream)))
+
+-- an answer, or none where there is nothing
+abbrev pub told_of : Heard → List Heard
+told_of Nothing = []
+told_of (Frame protocol information) = Frame protocol information ∷ []
+told_of (Dropped reason) = Dropped reason ∷ []
+
+-- the answers of the stream that tell something
+unfoldable pub told : List Received → List Heard
+told stream = flat_map told_of (Frames stream)
 
 -- octets that all come under one map
 abbrev pub stamped : ℕ → List ℕ → List Received

@@ -7,4 +7,5 @@ pub mod Octets
 pub mod Quotient
 pub mod Register
 pub mod Residue
+pub mod Spans
 pub use Rattle.circular_buffer.specs.Buffer

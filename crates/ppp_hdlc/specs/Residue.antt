@@ -48,6 +48,10 @@ with_first_complemented dividend = map not (take 16 dividend) ++ drop 16 dividen
 unfoldable pub Residue : List ℕ → ℕ
 Residue octets = number (remainder (with_first_complemented (flat_map (bits 8) octets ++ zeros)))
 
+-- The word of these octets: what is left of their bits with sixteen zero bits added, none of them complemented.
+unfoldable pub word_of : List ℕ → ℕ
+word_of octets = number (remainder (flat_map (bits 8) octets ++ zeros))
+
 -- the frame check sequence: the complement of that, in sixteen bits
 abbrev pub fcs_of : List ℕ → ℕ
 fcs_of octets = 65535 - Residue octets

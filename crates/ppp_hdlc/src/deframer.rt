@@ -1,13 +1,15 @@
-ghost use Rattle.std.specs.Prelude.{◌≡◌, ◌≢◌, ℕ, ◌<◌, ◌≤◌, ◌==◌, Bool, if◌then◌else◌, List, [], ◌∷◌, ◌++◌, length, option_map, IfOk, IfSome};
-ghost use Rattle.ppp_hdlc.specs.Frames.{Received, Frames, answer, protocol_of, without_address};
+ghost use Rattle.std.specs.Prelude.{◌≡◌, ◌≢◌, ℕ, ◌-◌, ◌<◌, ◌≤◌, ◌==◌, Bool, if◌then◌else◌, List, [], ◌∷◌, ◌++◌, length, map, filter, take, slice_index, option_map, IfOk, IfSome};
+ghost use Rattle.ppp_hdlc.specs.Frames.{Received, Frames, answer, protocol_of, without_address, told, told_of, stamped};
 ghost use Rattle.ppp_hdlc.specs.Octets.{is_flag};
-ghost use Rattle.ppp_hdlc.specs.Deframing.{StandsFor, KeepsPart, fresh};
+ghost use Rattle.ppp_hdlc.specs.Deframing.{StandsFor, fresh, kept, fed, judged, heard_at};
+ghost use Rattle.ppp_hdlc.specs.Spans.{IsSpan, Takes, fed_all};
 
 use crate::checksum::residue_of;
-use crate::heard::Heard;
+use crate::heard::{Heard, Span};
 use crate::octets::{ESCAPE, ESCAPE_BIT, FLAG, is_mapped};
 use crate::reason::Reason;
-use ppp_base::{Frame, MOST_FRAME, NoMemory};
+use crate::room::{ROOM, Room};
+use ppp_base::{DEFAULT_MAP, Frame, NoMemory};
 use std::alloc::Global;
 use std::marker::Model;
 
@@ -17,14 +19,11 @@ const LEAST_FRAME: usize = 4;
 /// What octets with a right check sum behind them leave.
 const GOOD_RESIDUE: u16 = 0xf0b8;
 
-/// The receiving map before one is agreed.
-const DEFAULT_MAP: u32 = 0xffff_ffff;
-
 /// Finds the frames in a stream of octets. Its room is taken when it is made.
 #[derive(Drop)]
 pub struct Deframer {
     map: u32,
-    octets: Box<Frame>,
+    octets: Box<Room>,
     is_over: bool,
     is_escaping: bool,
 }
@@ -44,7 +43,7 @@ impl Deframer {
         ensures fresh { IfOk result (λ d. d ≡ fresh) }
         ensures stands { IfOk result (λ d. StandsFor d []) }
     {
-        let octets = Box::new(alloc, Frame::new())?;
+        let octets = Box::new(alloc, Room::new())?;
         Ok(Deframer {
             map: DEFAULT_MAP,
             octets,
@@ -79,38 +78,104 @@ impl Deframer {
         ensures answer { (stream : List Received) → StandsFor self.old stream →
             Frames (stream ++ (octet, self.old.map) ∷ []) ≡ Frames stream ++ (if is_flag octet then result ∷ [] else []) }
         ensures quiet { octet ≢ 0x7e → result ≡ Heard.Nothing }
+        ensures told { (stream : List Received) → StandsFor self.old stream →
+            told (stream ++ (octet, self.old.map) ∷ []) ≡ told stream ++ told_of result }
+        ensures fed { self.new ≡ fed octet self.old }
+        ensures heard { result ≡ heard_at octet self.old }
+    {
+        let heard = self.answer_at(octet);
+        self.take(octet);
+        heard
+    }
+
+    /// Takes the octets of a piece up to and with the first one that `feed` would answer otherwise than by
+    /// Nothing, or else all of them, and answers as `feed` would at the last one taken. An empty piece gives
+    /// Nothing.
+    pub fn feed_span(&mut self, octets: &[u8]) -> Span
+        ensures map { self.new.map ≡ self.old.map }
+        ensures stands { (stream : List Received) → StandsFor self.old stream →
+            StandsFor self.new (stream ++ stamped self.old.map (take result.used octets.now)) }
+        ensures answers { (stream : List Received) → StandsFor self.old stream → 0 < result.used →
+            Frames (stream ++ stamped self.old.map (take result.used octets.now)) ≡ (Frames stream ++ map (λ _. Heard.Nothing) (filter is_flag (take (result.used - 1) octets.now))) ++ (if is_flag (slice_index octets.now (result.used - 1)) then result.heard ∷ [] else []) }
+        ensures told { (stream : List Received) → StandsFor self.old stream →
+            told (stream ++ stamped self.old.map (take result.used octets.now)) ≡ told stream ++ told_of result.heard }
+        ensures span { IsSpan octets.now self.old result.used result.heard }
+        ensures fed { self.new ≡ fed_all (take result.used octets.now) self.old }
+    {
+        let mut used = 0;
+        while used < octets.len() {
+            used = self.take_to_flag(octets, used);
+            if used < octets.len() {
+                let heard = self.feed(octets[used]);
+                used += 1;
+                if !heard.is_nothing() {
+                    return Span { used, heard };
+                }
+            }
+        }
+        Span {
+            used,
+            heard: Heard::Nothing,
+        }
+    }
+
+    // Takes the octets from a place on up to the next flag, and says where that is.
+    fn take_to_flag(&mut self, octets: &[u8], from: usize) -> usize
+        requires { from ≤ length octets.now }
+        ensures { Takes octets.now from result self.old self.new }
+    {
+        let mut at = self.take_runs(octets, from);
+        while at < octets.len() && octets[at] != FLAG {
+            self.take(octets[at]);
+            at = self.take_runs(octets, at + 1);
+        }
+        at
+    }
+
+    // Takes the octets from a place on, sixteen at a time, up to a flag at most, and says how far it came.
+    #[inline]
+    fn take_runs(&mut self, octets: &[u8], from: usize) -> usize
+        requires { from ≤ length octets.now }
+        ensures { Takes octets.now from result self.old self.new }
+    {
+        if self.is_escaping {
+            return from;
+        }
+        self.octets.append_unescaped(self.map, octets, from)
+    }
+
+    // What an octet is answered: a flag ends the part.
+    #[tactic(auto, unfolding(crate::specs::Deframing::heard_at))]
+    fn answer_at(&self, octet: u8) -> Heard
+        ensures { result ≡ heard_at octet self.now }
     {
         if octet == FLAG {
-            let heard = judge(self.octets.as_slice(), self.is_over, self.is_escaping);
-            self.clear();
-            heard
+            judge(self.octets.as_slice(), self.is_over, self.is_escaping)
         } else {
-            self.take(octet);
             Heard::Nothing
         }
     }
 
-    /// Begins an empty part.
-    #[tactic(auto, unfolding(crate::specs::Frames::unescaped, crate::specs::Frames::ends_escaping))]
+    // Begins an empty part.
     fn clear(&mut self)
-        ensures fresh { self.new ≡ record fresh { map = self.old.map } }
-        ensures empty { KeepsPart self.new.octets self.new.is_over self.new.is_escaping [] }
+        ensures { self.new ≡ record fresh { map = self.old.map } }
     {
         self.octets.clear();
         self.is_over = false;
         self.is_escaping = false;
     }
 
-    /// Takes an octet that is no flag.
+    // Takes an octet. A flag begins an empty part.
+    #[inline]
+    #[tactic(auto, unfolding(crate::specs::Deframing::fed))]
     fn take(&mut self, octet: u8)
-        requires { octet ≢ 0x7e }
-        ensures map { self.new.map ≡ self.old.map }
-        ensures stands { (stream : List Received) → StandsFor self.old stream → StandsFor self.new (stream ++ (octet, self.old.map) ∷ []) }
+        ensures { self.new ≡ fed octet self.old }
     {
-        if is_mapped(self.map, octet) {
-            return;
-        }
-        if self.is_escaping {
+        if octet == FLAG {
+            self.clear();
+        } else if is_mapped(self.map, octet) {
+            // The sender didn't send it.
+        } else if self.is_escaping {
             self.is_escaping = false;
             self.keep(octet ^ ESCAPE_BIT);
         } else if octet == ESCAPE {
@@ -120,14 +185,12 @@ impl Deframer {
         }
     }
 
-    /// Keeps an octet of the part, while there is room.
+    // Keeps an octet of the part, while there is room.
+    #[inline]
     fn keep(&mut self, octet: u8)
-        ensures map { self.new.map ≡ self.old.map }
-        ensures escaping { self.new.is_escaping ≡ self.old.is_escaping }
-        ensures octets { self.new.octets ≡ (if length self.old.octets == 1508 then self.old.octets else self.old.octets ++ octet ∷ []) }
-        ensures over { self.new.is_over ≡ (if length self.old.octets == 1508 then Bool.true else self.old.is_over) }
+        ensures { self.new ≡ kept octet self.old }
     {
-        if self.octets.len() == MOST_FRAME {
+        if self.octets.len() == ROOM {
             self.is_over = true;
         } else {
             self.octets.push(octet);
@@ -135,10 +198,10 @@ impl Deframer {
     }
 }
 
-/// What a flag behind a part ends.
+// What a flag behind a part ends.
 fn judge(octets: &[u8], is_over: bool, is_escaping: bool) -> Heard
     requires { length octets.now ≤ 1508 }
-    ensures { (part : List ℕ) → KeepsPart octets.now is_over is_escaping part → result ≡ answer part }
+    ensures { result ≡ judged octets.now is_over is_escaping }
 {
     if is_escaping {
         return Heard::Dropped(Reason::Aborted);
@@ -161,7 +224,7 @@ fn judge(octets: &[u8], is_over: bool, is_escaping: bool) -> Heard
     }
 }
 
-/// The protocol and the information of octets without their check sum.
+// The protocol and the information of octets without their check sum.
 fn content(octets: &[u8]) -> Option<(u16, &[u8])>
     ensures found { option_map (λ found. (found.0, found.1.now)) result ≡ protocol_of (without_address octets.now) }
     ensures within { IfSome result (λ found. length found.1.now ≤ length octets.now) }
@@ -181,7 +244,7 @@ fn content(octets: &[u8]) -> Option<(u16, &[u8])>
     }
 }
 
-/// The information as a frame's octets.
+// The information as a frame's octets.
 fn frame_of(information: &[u8]) -> Frame
     requires { length information.now ≤ 1508 }
     ensures { result ≡ information.now }

@@ -1,3 +1,5 @@
+ghost use Rattle.std.specs.Prelude.{◌≡◌, ◌↔◌, IsTrue};
+
 use crate::reason::Reason;
 use ppp_base::Frame;
 
@@ -10,4 +12,22 @@ pub enum Heard {
     Frame(u16, Frame),
     /// Octets that are no frame.
     Dropped(Reason),
+}
+
+impl Heard {
+    /// Whether nothing ended.
+    pub fn is_nothing(&self) -> bool
+        ensures { IsTrue result ↔ (self.now ≡ Heard.Nothing) }
+    {
+        matches!(self, Heard::Nothing)
+    }
+}
+
+/// What a piece of a stream gave.
+#[derive(Debug, Drop)]
+pub struct Span {
+    /// How many octets of the piece were taken.
+    pub used: usize,
+    /// The answer at the last of them.
+    pub heard: Heard,
 }

@@ -1,6 +1,6 @@
 //! What is true of the definitions, each proved of a function that does nothing.
 
-ghost use Rattle.std.specs.Prelude.{◌≡◌, ℕ, ◌+◌, ◌-◌, ◌≤◌, ◌↔◌, Bool, List, [], ◌∷◌, ◌++◌, length, take};
+ghost use Rattle.std.specs.Prelude.{◌≡◌, ℕ, ◌+◌, ◌-◌, ◌≤◌, ◌↔◌, Bool, List, [], ◌∷◌, ◌++◌, length, take, replicate};
 ghost use Rattle.ppp_base.specs.declared.send_settings.SendSettings.{SendSettings as Settings};
 ghost use Rattle.ppp_hdlc.specs.Frames.{Received, Frames, answer, stamped};
 ghost use Rattle.ppp_hdlc.specs.Encoding.{encoding, settings_for, with_fcs};
@@ -9,6 +9,8 @@ ghost use Rattle.ppp_hdlc.specs.IsRight.{IsRight};
 ghost use Rattle.ppp_hdlc.specs.Residue.{Residue, good_residue, remainder};
 ghost use Rattle.ppp_hdlc.specs.Register.{register_after};
 ghost use Rattle.ppp_hdlc.specs.Quotient.{IsDivision};
+ghost use Rattle.ppp_hdlc.specs.Deframing.{Deframing, StandsFor, fed, heard_at};
+ghost use Rattle.ppp_hdlc.specs.Spans.{IsSpan, fed_all};
 
 use crate::heard::Heard;
 
@@ -56,4 +58,20 @@ pub fn register_leaves_residue()
 /// The remainder is one: the dividend is a multiple of the divisor, and that remainder, of a lower power.
 pub fn remainder_is_of_division()
     ensures { (dividend : List Bool) → (quotient : List Bool) × IsDivision dividend quotient (remainder dividend) }
+{}
+
+/// It is the only one: each rest of a lower power that such a quotient leaves is that remainder, and of no
+/// coefficients at all the rest is 0.
+pub fn remainder_is_the_only_rest()
+    ensures only { (dividend quotient rest : List Bool) → IsDivision dividend quotient rest → rest ≡ remainder dividend }
+    ensures empty { (quotient rest : List Bool) → IsDivision [] quotient rest → rest ≡ replicate 16 Bool.false }
+{}
+
+/// A piece has one span and no other. That of one octet is the octet, with the answer that it is given by
+/// itself.
+pub fn a_piece_has_one_span()
+    ensures one { (octets : List ℕ) (d : Deframing) (used used' : ℕ) (heard heard' : Heard) →
+        IsSpan octets d used heard → IsSpan octets d used' heard' → (used ≡ used') × (heard ≡ heard') }
+    ensures some { (octets : List ℕ) (d : Deframing) → (used : ℕ) × (heard : Heard) × IsSpan octets d used heard }
+    ensures octet { (octet : ℕ) (d : Deframing) → IsSpan (octet ∷ []) d 1 (heard_at octet d) × (fed_all (octet ∷ []) d ≡ fed octet d) }
 {}

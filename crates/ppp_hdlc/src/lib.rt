@@ -17,11 +17,14 @@ mod heard;
 pub mod laws;
 mod octets;
 mod reason;
+mod room;
+mod runs;
+mod words;
 
 pub use checksum::fcs;
 pub use deframer::Deframer;
 pub use encode::frame_into;
-pub use heard::Heard;
+pub use heard::{Heard, Span};
 pub use reason::Reason;
 
 #[cfg(test)]

@@ -105,3 +105,98 @@ fn cut_anywhere(rt: HostRuntime) -> Result<(), Fail> {
     }
     Ok(())
 }
+
+/// Feeds a stream in two pieces, by spans, and looks at each octet's answer.
+fn feed_cut(
+    rt: &impl Abort,
+    deframer: &mut Deframer,
+    octets: &[u8],
+    cut: usize,
+    answers: &[(usize, Wanted)],
+) {
+    let mut at = 0;
+    while at < octets.len() {
+        let end = if at < cut { cut } else { octets.len() };
+        let span = deframer.feed_span(&octets[at..end]);
+        assert!(rt; 0 < span.used && span.used <= end - at);
+        for place in at..at + span.used - 1 {
+            assert!(rt; is_as_wanted(&Heard::Nothing, wanted_at(answers, place)));
+        }
+        at += span.used;
+        assert!(rt; is_as_wanted(&span.heard, wanted_at(answers, at - 1)));
+    }
+}
+
+#[test]
+fn spans_cut_anywhere(rt: HostRuntime) -> Result<(), Fail> {
+    let broken: [u8; 8] = [0x7e, 0x7e, 0x7d, 0x7e, 0x41, 0x42, 0x43, 0x7e];
+    let both = [
+        (3, Wanted::Dropped(Reason::Aborted)),
+        (7, Wanted::Dropped(Reason::Short)),
+    ];
+    let frame = [(9, Wanted::Frame(0x21, 0x7e))];
+    let rows: [(&[u8], &[(usize, Wanted)]); 2] = [(&broken, &both), (&FRAME, &frame)];
+    let mut deframer = Deframer::new(rt.alloc())?;
+    for (octets, answers) in rows {
+        for cut in 0..octets.len() {
+            deframer.restart();
+            deframer.set_map(0);
+            feed_cut(&rt, &mut deframer, octets, cut, answers);
+        }
+    }
+    Ok(())
+}
+
+#[test]
+fn a_frame_in_two_spans(rt: HostRuntime) -> Result<(), Fail> {
+    let mut deframer = Deframer::new(rt.alloc())?;
+    deframer.set_map(0);
+    let empty = deframer.feed_span(&[]);
+    assert_eq!(rt; empty.used, 0);
+    assert!(rt; is_as_wanted(&empty.heard, Wanted::Nothing));
+    let first = deframer.feed_span(&FRAME[..6]);
+    assert_eq!(rt; first.used, 6);
+    assert!(rt; is_as_wanted(&first.heard, Wanted::Nothing));
+    let second = deframer.feed_span(&FRAME[6..]);
+    assert_eq!(rt; second.used, 4);
+    assert!(rt; is_as_wanted(&second.heard, Wanted::Frame(0x21, 0x7e)));
+    Ok(())
+}
+
+/// An information longer than two runs of sixteen, with octets to be escaped at each place of a run.
+#[test]
+fn long_frames_go_round(rt: HostRuntime) -> Result<(), Fail> {
+    let mut information = [0x41u8; 1500];
+    for i in 0..1500usize {
+        if i % 17 == 0 {
+            information[i] = 0x7d;
+        } else if i % 29 == 0 {
+            information[i] = 0x7e;
+        } else if i % 31 == 0 {
+            information[i] = 0x11;
+        }
+    }
+    let mut out = HeapCircularBuffer::with_capacity(rt.alloc(), 4096)?;
+    let mut deframer = Deframer::new(rt.alloc())?;
+    for map in [0u32, 0xffff_ffff, 0x000a_0000] {
+        let settings = SendSettings {
+            map,
+            pfc: false,
+            acfc: false,
+        };
+        out.clear();
+        assert!(rt; frame_into(&settings, 0x21, &information, &mut out));
+        let line = out.to_vec(rt.alloc())?;
+        deframer.set_map(map);
+        let flag = deframer.feed_span(line.as_slice());
+        assert_eq!(rt; flag.used, line.len());
+        match flag.heard {
+            Heard::Frame(protocol, octets) => {
+                assert_eq!(rt; protocol, 0x21);
+                assert_eq!(rt; octets.as_slice(), information.as_slice());
+            }
+            _ => assert!(rt; false),
+        }
+    }
+    Ok(())
+}
