@@ -83,12 +83,15 @@ fits parts = nat_le (with_hyphens parts) 513
 
 -- DIRECTIVES
 
-abbrev pub keywords : List (List ℕ × Keyword)
-keywords = (codes "ABORT", SetsAbort) ∷ (codes "CLR_ABORT", ClearsAbort) ∷ (codes "TIMEOUT", SetsTimeout) ∷ []
+-- the word that is a directive's name
+abbrev pub name_of : Keyword → List ℕ
+name_of SetsAbort = codes "ABORT"
+name_of ClearsAbort = codes "CLR_ABORT"
+name_of SetsTimeout = codes "TIMEOUT"
 
 -- the directive that a word names, if it does
 abbrev pub keyword_of : List ℕ → Option Keyword
-keyword_of word = option_map (λ (row : List ℕ × Keyword). row.1) (find (λ (row : List ℕ × Keyword). pointwise nat_eq row.0 word) keywords)
+keyword_of word = find (λ (keyword : Keyword). pointwise nat_eq (name_of keyword) word) (SetsAbort ∷ ClearsAbort ∷ SetsTimeout ∷ [])
 
 abbrev pub is_digit : ℕ → Bool
 is_digit octet = nat_le 48 octet && nat_le octet 57

@@ -1,10 +1,19 @@
-// Rows.
-ghost use Rattle.std.specs.Prelude.{◌≡◌, ◌∷◌, [], List, Some, None, IsOkAnd, codes, Err, ◌++◌};
+// Laws of the definitions that the contracts cite.
+ghost use Rattle.std.specs.Prelude.{◌≡◌, ◌++◌, ◌∷◌, [], List, Some, None, IsOkAnd, Err, codes};
 ghost use Rattle.ppp_chat.specs.ChatOf.{ChatOf};
-ghost use Rattle.ppp_chat.specs.Event.{tick_at, octet_at};
+ghost use Rattle.ppp_chat.specs.Event.{Event, tick_at, octet_at};
+ghost use Rattle.ppp_chat.specs.Script.{ChatScript};
 ghost use Rattle.ppp_chat.specs.Words.{script_of};
 ghost use Rattle.ppp_chat.specs.declared.fault.ScriptFault.TheVariants.{BadEscape};
 ghost use Rattle.ppp_chat.specs.declared.now.ChatEnd.TheVariants.{TimedOut, Aborted, Done};
+
+use crate::now::ChatEnd;
+
+/// Where a script has ended, more events change nothing.
+pub fn an_end_stays()
+    ensures { (script : ChatScript) (events more : List Event) (how : ChatEnd) → (ChatOf script events).outcome ≡ Some how
+        → ChatOf script (events ++ more) ≡ ChatOf script events }
+{}
 
 /// A busy line: `ABORT BUSY '' ATDT5 CONNECT ''`, begun at 0, and the octets `BU` and `SY`.
 pub fn a_busy_line()

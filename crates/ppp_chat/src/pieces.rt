@@ -23,7 +23,7 @@ impl Model for Pieces {
     ghost view = { λ pieces. pieces.pieces.items };
 }
 
-/// What a part is without two quote marks as the whole.
+// What a part is without two quote marks as the whole.
 fn unquoted(part: &[u8]) -> &[u8]
     ensures { result.now ≡ unquoted part.now }
 {
@@ -33,7 +33,7 @@ fn unquoted(part: &[u8]) -> &[u8]
     part
 }
 
-/// The piece that an octet begins, before these others, and what stands behind it.
+// The piece that an octet begins, before these others, and what stands behind it.
 fn take_piece(octet: u8, others: &[u8]) -> Option<(Piece, &[u8])>
     ensures read { MatchOption result (pieces_behind 0 (octet ∷ others.now) ≡ None)
         (λ found. pieces_behind 0 (octet ∷ others.now) ≡ with_piece found.0 (pieces_behind 0 found.1.now)) }
@@ -74,7 +74,7 @@ impl Pieces {
         self.pieces.iter().filter_map(|piece| piece.octet()).count()
     }
 
-    /// Their octets, as many as there are.
+    // Their octets, as many as there are.
     fn octets(&self, alloc: Global) -> Result<Vec<u8>, AllocError>
         ensures { IfOk result (λ octets. octets.items ≡ text_of self.now) }
     {
