@@ -1,1 +1,5 @@
+pub mod Decimals
 pub mod HexLemmas
+pub mod HexNumbers
+mod NumberLemmas
+pub mod PartLemmas

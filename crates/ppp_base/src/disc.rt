@@ -1,16 +1,16 @@
 ghost use Rattle.std.specs.Prelude.{◌≡◌, ◌<◌, ◌≤◌, ◌↔◌, length, IsSome, IfSome};
 
-use arrayvec::ArrayVec;
+use crate::octets::Octets;
 use std::marker::Model;
 
 /// The most octets of a discriminator's address.
 pub const MOST_ADDRESS: usize = 20;
 
 /// An endpoint discriminator (RFC 1990, section 5.1.3). Its class is not 0: class 0 is no discriminator.
-#[derive(Debug, Drop)]
+#[derive(Debug, PartialEq, Eq, Drop)]
 pub struct Disc {
     class: u8,
-    address: ArrayVec<u8, 20>,
+    address: Octets<20>,
 }
 
 impl Model for Disc {
@@ -19,9 +19,11 @@ impl Model for Disc {
 
     ghost Value = { Discriminator };
 
-    ghost view = { λ disc. record { class = disc.class; address = disc.address.items } };
+    ghost view = { λ disc. record { class = disc.class; address = disc.address } };
 
-    ghost invariant = { λ disc. (1 ≤ disc.class) × (length disc.address.items ≤ 20) };
+    ghost invariant = { λ disc. (1 ≤ disc.class) × (length disc.address ≤ 20) };
+
+    ghost inverse = { λ parts. record { class = parts.class; address = parts.address } };
 }
 
 impl Disc {
@@ -33,14 +35,8 @@ impl Disc {
         if class == 0 {
             return None;
         }
-        let mut octets = ArrayVec::new();
-        match octets.try_extend_from_slice(address) {
-            Ok(()) => Some(Disc {
-                class,
-                address: octets,
-            }),
-            Err(_) => None,
-        }
+        let address = Octets::from_octets(address)?;
+        Some(Disc { class, address })
     }
 
     /// Its class, which is not 0.
@@ -63,11 +59,9 @@ impl Disc {
     pub fn copy(&self) -> Disc
         ensures { result ≡ self.now }
     {
-        let mut address = ArrayVec::new();
-        let _ = address.try_extend_from_slice(self.address.as_slice());
         Disc {
             class: self.class,
-            address,
+            address: self.address.copy(),
         }
     }
 }

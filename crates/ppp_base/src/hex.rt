@@ -1,9 +1,9 @@
 ghost use Rattle.std.specs.Prelude.{◌≡◌, ◌+◌, ◌*◌, ◌<◌, ◌≤◌, ◌↔◌, length, IsTrue, MatchOption};
 ghost use Rattle.std.specs.Bool.{OnTrue, OnFalse};
 ghost use Rattle.std.specs.Char.{digit_value};
-ghost use Rattle.ppp_base.specs.Hex.{IsHexText, IsHexOf, lower_digit};
+ghost use Rattle.ppp_base.specs.Hex.{IsHexText, IsHexOf, hex_number_of, lower_digit};
 
-use crate::datagram::{Datagram, MOST_DATAGRAM};
+use crate::octets::{Datagram, MOST_DATAGRAM};
 
 /// Reads hexadecimal digits of either case, two for each octet. After false `out` is unchanged.
 pub fn read_hex(text: &[u8], out: &mut Datagram) -> bool
@@ -23,6 +23,21 @@ pub fn read_hex(text: &[u8], out: &mut Datagram) -> bool
     }
     *out = octets;
     true
+}
+
+/// The number that 1 to 8 hexadecimal digits of either case are.
+pub fn read_hex_number(word: &[u8]) -> Option<u32>
+    ensures { result ≡ hex_number_of word.now }
+{
+    if word.is_empty() || 8 < word.len() {
+        return None;
+    }
+    let mut value = 0u64;
+    for digit in word {
+        let digit = char::from(*digit).to_digit(16)?;
+        value = value * 16 + u64::from(digit);
+    }
+    Some(value as u32)
 }
 
 // The octet of two digits.

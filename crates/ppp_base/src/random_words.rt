@@ -1,7 +1,7 @@
 ghost use Rattle.std.specs.Prelude.{◌≡◌, ℕ};
 ghost use Rattle.rand_core.specs.Stream.{next_u32};
 ghost use Rattle.rand_core.specs.Steps.{stream_of, steps_u32};
-ghost use Rattle.ppp_base.specs.RandomWords.{next_state, next_word, word_step};
+ghost use Rattle.ppp_base.specs.RandomWords.{next_state, next_word, word_step, state_after, branch_of, challenge_of};
 
 use rand_core::utils::NextWord;
 use rand_core::{Rng, utils};
@@ -34,6 +34,30 @@ impl RandomWords {
         ensures { result ≡ self.now }
     {
         self.state
+    }
+}
+
+impl RandomWords {
+    /// A generator made from the next two words: its state is the first times 2^32 plus the second.
+    pub fn branch(&mut self) -> RandomWords
+        ensures made { result ≡ branch_of self.old }
+        ensures state { self.new ≡ state_after 2 self.old }
+    {
+        let high = self.next_u32();
+        let low = self.next_u32();
+        RandomWords::new((u64::from(high) << 32) | u64::from(low))
+    }
+
+    /// The octets of a challenge: those of the next four words, the most significant octet of each first.
+    pub fn challenge(&mut self) -> [u8; 16]
+        ensures octets { result ≡ challenge_of self.old }
+        ensures state { self.new ≡ state_after 4 self.old }
+    {
+        let [a, b, c, d] = self.next_u32().to_be_bytes();
+        let [e, f, g, h] = self.next_u32().to_be_bytes();
+        let [i, j, k, l] = self.next_u32().to_be_bytes();
+        let [m, n, o, p] = self.next_u32().to_be_bytes();
+        [a, b, c, d, e, f, g, h, i, j, k, l, m, n, o, p]
     }
 }
 

@@ -4,20 +4,20 @@ use rand_core::Rng;
 use std::test::Fail;
 
 #[test]
-fn octets_of_names(rt: HostRuntime) -> Result<(), Fail> {
-    let full = [7u8; 256];
-    assert!(rt; Name::from_octets(&full).is_none());
-    let most = Name::from_octets(&full[..255]).expect(&rt, "255 octets fit");
-    assert_eq!(rt; most.len(), 255);
-    let mut name = Name::new();
-    assert!(rt; name.is_empty() && name == Name::default());
-    name.push(b'a');
-    name.append(b"bc");
-    assert_eq!(rt; name.as_slice(), b"abc".as_slice());
-    let same = name.copy();
-    let inner: ArrayVec<u8, 255> = ArrayVec::from(name);
+fn bounded_octets(rt: HostRuntime) -> Result<(), Fail> {
+    let full = [7u8; 5];
+    assert!(rt; Octets::<4>::from_octets(&full).is_none());
+    let most = Octets::<4>::from_octets(&full[..4]).expect(&rt, "four octets fit");
+    assert_eq!(rt; most.len(), 4);
+    let mut some = Octets::<4>::new();
+    assert!(rt; some.is_empty() && some == Octets::default());
+    some.push(b'a');
+    some.append(b"bc");
+    assert_eq!(rt; some.as_slice(), b"abc".as_slice());
+    let same = some.copy();
+    let inner: ArrayVec<u8, 4> = ArrayVec::from(some);
     assert_eq!(rt; inner.as_slice(), b"abc".as_slice());
-    let mut again = Name::from(inner);
+    let mut again = Octets::from(inner);
     assert!(rt; again == same);
     again.clear();
     assert!(rt; again.is_empty() && again != same);
@@ -25,43 +25,85 @@ fn octets_of_names(rt: HostRuntime) -> Result<(), Fail> {
 }
 
 #[test]
-fn octets_of_frames(rt: HostRuntime) -> Result<(), Fail> {
-    let full = [7u8; 1509];
-    assert!(rt; Frame::from_octets(&full).is_none());
-    let most = Frame::from_octets(&full[..1508]).expect(&rt, "1,508 octets fit");
-    assert_eq!(rt; most.len(), 1508);
-    let mut frame = Frame::new();
-    assert!(rt; frame.is_empty() && frame == Frame::default());
-    frame.push(1);
-    frame.append(&[2, 3]);
-    let same = frame.copy();
-    let inner: ArrayVec<u8, 1508> = ArrayVec::from(frame);
-    assert_eq!(rt; inner.as_slice(), [1, 2, 3].as_slice());
-    let mut again = Frame::from(inner);
-    assert!(rt; again == same);
-    again.clear();
-    assert_eq!(rt; again.as_slice(), [].as_slice());
-    Ok(())
+fn most_octets(rt: HostRuntime) {
+    let full = [7u8; 2049];
+    assert!(rt; Name::from_octets(&full[..MOST_NAME]).is_some());
+    assert!(rt; Name::from_octets(&full[..256]).is_none());
+    assert!(rt; Frame::from_octets(&full[..MOST_FRAME]).is_some());
+    assert!(rt; Frame::from_octets(&full[..1509]).is_none());
+    assert!(rt; Datagram::from_octets(&full[..MOST_DATAGRAM]).is_some());
+    assert!(rt; Datagram::from_octets(&full).is_none());
 }
 
 #[test]
-fn octets_of_datagrams(rt: HostRuntime) -> Result<(), Fail> {
-    let full = [7u8; 2049];
-    assert!(rt; Datagram::from_octets(&full).is_none());
-    let most = Datagram::from_octets(&full[..2048]).expect(&rt, "2,048 octets fit");
-    assert_eq!(rt; most.len(), 2048);
-    let mut datagram = Datagram::new();
-    assert!(rt; datagram.is_empty() && datagram == Datagram::default());
-    datagram.push(1);
-    datagram.append(&[2, 3]);
-    let same = datagram.copy();
-    let inner: ArrayVec<u8, 2048> = ArrayVec::from(datagram);
-    assert_eq!(rt; inner.as_slice(), [1, 2, 3].as_slice());
-    let mut again = Datagram::from(inner);
-    assert!(rt; again == same);
-    again.clear();
-    assert_eq!(rt; again.as_slice(), [].as_slice());
-    Ok(())
+fn numbers_in_words(rt: HostRuntime) {
+    for (word, zeros, least, most, number) in [
+        ("0", LeadingZeros::Refused, 0, 255, Some(0)),
+        ("255", LeadingZeros::Refused, 0, 255, Some(255)),
+        ("256", LeadingZeros::Refused, 0, 255, None),
+        ("05", LeadingZeros::Refused, 0, 255, None),
+        ("05", LeadingZeros::Lawful, 0, 255, Some(5)),
+        ("0000000005", LeadingZeros::Lawful, 0, 255, Some(5)),
+        ("00000000005", LeadingZeros::Lawful, 0, 255, None),
+        ("", LeadingZeros::Lawful, 0, 255, None),
+        ("+5", LeadingZeros::Lawful, 0, 255, None),
+        ("-5", LeadingZeros::Lawful, 0, 255, None),
+        ("5 ", LeadingZeros::Lawful, 0, 255, None),
+        ("5x", LeadingZeros::Lawful, 0, 255, None),
+        ("0", LeadingZeros::Lawful, 1, 255, None),
+        (
+            "18446744073709551615",
+            LeadingZeros::Refused,
+            0,
+            u64::MAX,
+            Some(u64::MAX),
+        ),
+        (
+            "18446744073709551616",
+            LeadingZeros::Refused,
+            0,
+            u64::MAX,
+            None,
+        ),
+    ] {
+        assert_eq!(rt;
+            read_number(word.as_bytes(), zeros, least, most),
+            number,
+            "at {word}"
+        );
+    }
+}
+
+#[test]
+fn addresses(rt: HostRuntime) {
+    assert_eq!(rt; read_address(b"10.0.0.255"), Some([10, 0, 0, 255]));
+    assert_eq!(rt; read_address(b"010.0.0000000000.1"), Some([10, 0, 0, 1]));
+    for word in [
+        "",
+        "10.0.0",
+        "10.0.0.1.",
+        "10.0.0.1.2",
+        "10.0.0.256",
+        "10..0.1",
+        "10.0.0.1 ",
+        "10.0.0.00000000001",
+    ] {
+        assert!(rt; read_address(word.as_bytes()).is_none(), "at {word}");
+    }
+    let (first, rest) = first_part(b"a/b/", b'/');
+    assert_eq!(rt; first, b"a".as_slice());
+    assert!(rt; rest == Some(b"b/".as_slice()));
+    let (all, none) = first_part(b"ab", b'/');
+    assert!(rt; all == b"ab".as_slice() && none.is_none());
+}
+
+#[test]
+fn answers_to_events(rt: HostRuntime) {
+    let taken: Stepped<u8> = Stepped::Taken;
+    assert!(rt; taken.is_taken() && taken.into_stale().is_none());
+    let stale = Stepped::Stale(7u8);
+    assert!(rt; !stale.is_taken());
+    assert_eq!(rt; stale.into_stale(), Some(7));
 }
 
 #[test]
@@ -104,6 +146,11 @@ fn discriminators(rt: HostRuntime) -> Result<(), Fail> {
     let disc = Disc::new(3, &[1, 2]).expect(&rt, "in range").copy();
     assert_eq!(rt; disc.class(), 3);
     assert_eq!(rt; disc.address(), [1, 2].as_slice());
+    assert!(rt; disc == disc.copy());
+    for (class, address) in [(4, [1, 2]), (3, [1, 3])] {
+        let other = Disc::new(class, &address).expect(&rt, "in range");
+        assert!(rt; disc != other, "at {class}");
+    }
     Ok(())
 }
 
@@ -122,6 +169,11 @@ fn hexadecimal(rt: HostRuntime) -> Result<(), Fail> {
     assert!(rt; read_hex(&[b'1'; 4096], &mut out));
     assert_eq!(rt; out.len(), 2048);
     assert!(rt; read_hex(b"", &mut out) && out.is_empty());
+    assert_eq!(rt; read_hex_number(b"0a0A"), Some(0x0a0a));
+    assert_eq!(rt; read_hex_number(b"ffffffff"), Some(0xffff_ffff));
+    for text in ["", "000000000", "g", "0x1"] {
+        assert!(rt; read_hex_number(text.as_bytes()).is_none(), "at {text}");
+    }
     for (value, digit) in [(0, b'0'), (9, b'9'), (10, b'a'), (15, b'f')] {
         assert_eq!(rt; hex_digit(value), digit, "at {value}");
     }
@@ -138,4 +190,88 @@ fn random_words(rt: HostRuntime) {
     assert_eq!(rt; same.next_u64() & 0xffff_ffff, u64::from(next));
     let mut octets = [0u8; 2];
     words.fill_bytes(&mut octets);
+    let mut words = RandomWords::new(1);
+    assert_eq!(rt;
+        words.challenge(),
+        [
+            0x6c, 0x57, 0x6f, 0xac, 0x82, 0x68, 0x86, 0xb3, 0xa5, 0xfa, 0xe1, 0x99, 0x62, 0x03,
+            0x55, 0xcd
+        ]
+    );
+    assert_eq!(rt; words.branch().state(), 0xcba2_76b4_8021_81e6);
+    assert_eq!(rt; words.state(), 0x8021_81e6_e230_707f);
+    let plain = SendSettings::plain();
+    assert!(rt; plain.map == DEFAULT_MAP && !plain.pfc && !plain.acfc);
+}
+
+// A link with one post that waits, which takes what is of its stay.
+#[derive(Drop)]
+struct OnePost {
+    waiting: Option<UpPost>,
+}
+
+impl Ends for OnePost {
+    ghost use Rattle.std.specs.Prelude.{option_to_list};
+
+    ghost number = { λ s. 1 };
+
+    ghost waiting = { λ s. option_to_list s.waiting };
+
+    fn id(&self) -> LinkId {
+        match LinkId::new(1) {
+            Some(link) => link,
+            None => unreachable!(),
+        }
+    }
+
+    fn take_up(&mut self) -> Option<UpPost> {
+        self.waiting.take()
+    }
+
+    fn from_table(&mut self, post: Post) -> Stepped<Post> {
+        match post {
+            Post::Member { stay: 1, .. } => Stepped::Taken,
+            other => Stepped::Stale(other),
+        }
+    }
+}
+
+#[test]
+fn posts(rt: HostRuntime) {
+    for (reason, number) in [
+        (Refusal::Unlike, 1),
+        (Refusal::UnitTaken, 2),
+        (Refusal::NoRoom, 3),
+    ] {
+        assert_eq!(rt; reason.number(), number, "at {reason:?}");
+    }
+    for (cause, number) in [
+        (CloseCause::Idle, 12),
+        (CloseCause::ConnectTime, 13),
+        (CloseCause::IpcpFailed, 14),
+        (CloseCause::EndedByPeer, 15),
+        (CloseCause::TooManyChanges, 16),
+    ] {
+        assert_eq!(rt; cause.number(), number, "at {cause:?}");
+    }
+    let join = Join {
+        stay: 1,
+        peer: None,
+        disc: None,
+        mrru: None,
+        mru: 1500,
+        allow: Allow::Any,
+    };
+    let mut link = OnePost {
+        waiting: Some(UpPost::Join(join)),
+    };
+    assert_eq!(rt; link.id().number(), 1);
+    assert!(rt; link.take_up().is_some() && link.take_up().is_none());
+    let member = |stay| Post::Member {
+        stay,
+        unit: Unit::zero(),
+        live: false,
+    };
+    assert!(rt; link.from_table(member(1)).is_taken());
+    assert!(rt; link.from_table(member(2)).into_stale() == Some(member(2)));
 }

@@ -1,12 +1,13 @@
 -- In Ack-Rcvd and in Opened our last request has been acknowledged.
-use Rattle.std.proofs.Common.{◌≡◌, ℕ, ◌+◌, Bool, true, false, cond, Option, Some, None, List, [], ◌∷◌, refl, ap, ◌∙◌, zero, suc, arith, add-zero, zero-add}
-use Rattle.std.specs.Prelude.{◌==◌, ◌&&◌, ◌||◌, not, slice_index_or, nat_eq, if◌then◌else◌, option_map, option_to_list}
+use Rattle.std.proofs.Common.{◌≡◌, ℕ, Bool, true, false, cond, Option, Some, None, List, [], ◌∷◌, refl, ap, ◌∙◌}
+use Rattle.std.specs.Prelude.{◌==◌, ◌&&◌, ◌||◌, not, option_map, option_to_list}
 use Rattle.ppp_fsm.specs.declared.event.FsmEvent.{FsmEvent}
-use Rattle.ppp_fsm.specs.declared.event.FsmEvent.TheVariants.{Up, Down, Open, Close, Timeout, RcrGood, RcrBad, Rca, Rcn, Rtr, Rta, Ruc, RxjGood, RxjBad, Rxr}
 use Rattle.ppp_fsm.specs.declared.acts.Act.{Act}
 use Rattle.ppp_fsm.specs.declared.acts.Act.TheVariants.{Tlu, Tld, Tls, Tlf, Irc, Zrc, Scr, Sca, Scn, Str, Sta, Scj, Ser}
 use Rattle.ppp_fsm.specs.declared.fsm.Limits.{Limits}
-use Rattle.ppp_fsm.specs.Fsm.{Automaton, Entry, never, go, row_of, timeout_at_0, timeout_above, acts_in, acts_of, after, after_entry}
+use Rattle.ppp_fsm.specs.Acts.{has}
+use Rattle.ppp_fsm.specs.Fsm.{Automaton, Entry, acts_in, acts_of, after}
+use Rattle.ppp_fsm.proofs.TableLemmas.{each_entry, next_of, next_is}
 use Rattle.ppp_packet.specs.declared.packet.Packet.{Packet}
 use Rattle.ppp_control.specs.declared.negotiation.Negotiation.{Negotiation}
 use Rattle.ppp_control.specs.declared.judging.Verdict.{Verdict}
@@ -16,65 +17,18 @@ use Rattle.ppp_control.specs.Step.{left_by, sent_by, sent_by_all, moved, step_se
 use Rattle.ppp_control.specs.Past.{Happened, onto, last_of, sent_in, last_acked, is_rca, has_ack, IsAcked, automaton_after}
 use Rattle.ppp_control.proofs.PastLemmas.{onto_more}
 
--- whether a request is among the acts
-abbrev asks : List Act → Bool
-asks [] = false
-asks (Scr ∷ acts) = true
-asks (_ ∷ acts) = asks acts
-
-abbrev next_of : ℕ → Entry → ℕ
-next_of state never = state
-next_of state (go acts next) = next
-
 -- an entry that leads there sends no request, and comes from there or is an Ack's
-abbrev keeps : Bool → ℕ → Entry → Bool
-keeps rca state entry = not (has_ack (next_of state entry)) || (not (asks (acts_in entry)) && (has_ack state || rca))
+abbrev keeps : FsmEvent → ℕ → Entry → Bool
+keeps event state entry = not (has_ack (next_of state entry)) || (not (has Scr (acts_in entry)) && (has_ack state || is_rca (Some event)))
 
-abbrev RowKeeps : Bool → ℕ → List Entry → Type 0
-RowKeeps rca state [] = Unit {0}
-RowKeeps rca state (entry ∷ entries) = (keeps rca state entry ≡ true) × RowKeeps rca (state + 1) entries
-
-never_keeps : (b rca : Bool) → (not b || (b || rca)) ≡ true
-never_keeps true rca = refl
-never_keeps false rca = refl
-
-entry_keeps : (rca : Bool) (first state : ℕ) (entries : List Entry) → RowKeeps rca first entries → keeps rca (first + state) (slice_index_or entries state never) ≡ true
-entry_keeps rca first state [] row = never_keeps (has_ack (first + state)) rca
-entry_keeps rca first zero (entry ∷ entries) row = rw add-zero row.0
-entry_keeps rca first (suc state) (entry ∷ entries) row =
-    let next : first + suc state ≡ first + 1 + state = omega arith in
-    rw next (entry_keeps rca (first + 1) state entries row.1)
-
-timeouts_keep : (b : Bool) → RowKeeps false 0 (if b then timeout_at_0 else timeout_above)
-timeouts_keep true = (refl, (refl, (refl, (refl, (refl, (refl, (refl, (refl, (refl, (refl, tt))))))))))
-timeouts_keep false = (refl, (refl, (refl, (refl, (refl, (refl, (refl, (refl, (refl, (refl, tt))))))))))
-
-rows_keep : (event : FsmEvent) (counter : ℕ) → RowKeeps (is_rca (Some event)) 0 (row_of event counter)
-rows_keep Up counter = (refl, (refl, (refl, (refl, (refl, (refl, (refl, (refl, (refl, (refl, tt))))))))))
-rows_keep Down counter = (refl, (refl, (refl, (refl, (refl, (refl, (refl, (refl, (refl, (refl, tt))))))))))
-rows_keep Open counter = (refl, (refl, (refl, (refl, (refl, (refl, (refl, (refl, (refl, (refl, tt))))))))))
-rows_keep Close counter = (refl, (refl, (refl, (refl, (refl, (refl, (refl, (refl, (refl, (refl, tt))))))))))
-rows_keep Timeout counter = timeouts_keep (nat_eq counter 0)
-rows_keep RcrGood counter = (refl, (refl, (refl, (refl, (refl, (refl, (refl, (refl, (refl, (refl, tt))))))))))
-rows_keep RcrBad counter = (refl, (refl, (refl, (refl, (refl, (refl, (refl, (refl, (refl, (refl, tt))))))))))
-rows_keep Rca counter = (refl, (refl, (refl, (refl, (refl, (refl, (refl, (refl, (refl, (refl, tt))))))))))
-rows_keep Rcn counter = (refl, (refl, (refl, (refl, (refl, (refl, (refl, (refl, (refl, (refl, tt))))))))))
-rows_keep Rtr counter = (refl, (refl, (refl, (refl, (refl, (refl, (refl, (refl, (refl, (refl, tt))))))))))
-rows_keep Rta counter = (refl, (refl, (refl, (refl, (refl, (refl, (refl, (refl, (refl, (refl, tt))))))))))
-rows_keep Ruc counter = (refl, (refl, (refl, (refl, (refl, (refl, (refl, (refl, (refl, (refl, tt))))))))))
-rows_keep RxjGood counter = (refl, (refl, (refl, (refl, (refl, (refl, (refl, (refl, (refl, (refl, tt))))))))))
-rows_keep RxjBad counter = (refl, (refl, (refl, (refl, (refl, (refl, (refl, (refl, (refl, (refl, tt))))))))))
-rows_keep Rxr counter = (refl, (refl, (refl, (refl, (refl, (refl, (refl, (refl, (refl, (refl, tt))))))))))
-
-next_is : (a : Automaton) (entry : Entry) → (after_entry a entry).state ≡ next_of a.state entry
-next_is a never = refl
-next_is a (go acts next) = refl
-
-table_keeps : (a : Automaton) (event : FsmEvent) → (not (has_ack (after a event).state) || (not (asks (acts_of a event)) && (has_ack a.state || is_rca (Some event)))) ≡ true
-unfolding acts_of after
+table_keeps : (a : Automaton) (event : FsmEvent) → (not (has_ack (after a event).state) || (not (has Scr (acts_of a event)) && (has_ack a.state || is_rca (Some event)))) ≡ true
+unfolding acts_of
 table_keeps a event =
-    let entry = slice_index_or (row_of event a.counter) a.state never in
-    rw (next_is a entry) (rw zero-add at (entry_keeps (is_rca (Some event)) 0 a.state (row_of event a.counter) (rows_keep event a.counter)))
+    rw (next_is a event) (each_entry keeps refl (λ event state past. never_keeps (has_ack state) (is_rca (Some event))) a event)
+  where
+    never_keeps : (b rca : Bool) → (not b || (b || rca)) ≡ true
+    never_keeps true rca = refl
+    never_keeps false rca = refl
 
 -- acts that send no request leave the last one
 other_by_option : {X : Type 0} (f : X → Packet) (o : Option X) (log : List Packet) → ((x : X) → ((f x).code == 1) ≡ false) → last_of 1 (onto (option_to_list (option_map f o)) log) ≡ last_of 1 log
@@ -86,7 +40,7 @@ other_by_verdict id Ack log = refl
 other_by_verdict id (Nak items) log = refl
 other_by_verdict id (Reject items) log = refl
 
-same_request : (o : Given) (n : Negotiation) (act : Act) (acts : List Act) (log : List Packet) → asks (act ∷ acts) ≡ false → (last_of 1 (onto (option_to_list (sent_by o n act)) log) ≡ last_of 1 log) × (asks acts ≡ false)
+same_request : (o : Given) (n : Negotiation) (act : Act) (acts : List Act) (log : List Packet) → has Scr (act ∷ acts) ≡ false → (last_of 1 (onto (option_to_list (sent_by o n act)) log) ≡ last_of 1 log) × (has Scr acts ≡ false)
 same_request o n Scr acts log h = absurd (clash h)
   where
     clash : true ≡ false → ⊥
@@ -104,7 +58,7 @@ same_request o n Tld acts log h = (refl, h)
 same_request o n Tls acts log h = (refl, h)
 same_request o n Tlf acts log h = (refl, h)
 
-same_requests : (o : Given) (acts : List Act) (n : Negotiation) (log : List Packet) → asks acts ≡ false → last_of 1 (onto (sent_by_all o n acts) log) ≡ last_of 1 log
+same_requests : (o : Given) (acts : List Act) (n : Negotiation) (log : List Packet) → has Scr acts ≡ false → last_of 1 (onto (sent_by_all o n acts) log) ≡ last_of 1 log
 same_requests o [] n log h = refl
 same_requests o (act ∷ acts) n log h =
     let one = same_request o n act acts log h in
@@ -131,8 +85,8 @@ acked_back limits past heard o event n e h =
     let a : Automaton = automaton_after limits past in
     record {
       last = λ now.
-          let split = parts (has_ack (after a event).state) (asks (acts_of a event)) (has_ack a.state) (is_rca (Some event)) (table_keeps a event) now in
+          let split = parts (has_ack (after a event).state) (has Scr (acts_of a event)) (has_ack a.state) (is_rca (Some event)) (table_keeps a event) now in
           either (has_ack a.state) (is_rca (Some event)) _ (last_of 1 (sent_in past)) (last_acked past) split.1
-          (same_requests o (acts_of n.fsm event) (moved event n) (sent_in past) (ap (λ x. asks (acts_of x event)) e ∙ split.0))
+          (same_requests o (acts_of n.fsm event) (moved event n) (sent_in past) (ap (λ x. has Scr (acts_of x event)) e ∙ split.0))
           h.last;
     }

@@ -12,8 +12,8 @@ use Rattle.ppp_packet.specs.declared.packet.Packet.{Packet}
 use Rattle.ppp_packet.specs.OptionsOf.{Item, laid}
 use Rattle.ppp_packet.specs.OptionList.{read_options}
 use Rattle.ppp_control.specs.declared.parts.Request.{Request}
-use Rattle.ppp_control.specs.declared.classes.Heard.{Heard}
-use Rattle.ppp_control.specs.declared.classes.Heard.TheVariants.{Request as Asks, Ack as Acked, Nak as Named, Reject as Rejected, Event, Discarded}
+use Rattle.ppp_control.specs.declared.classes.HeardAs.{HeardAs}
+use Rattle.ppp_control.specs.declared.classes.HeardAs.TheVariants.{Request as Asks, Ack as Acked, Nak as Named, Reject as Rejected, Event, Discarded}
 use Rattle.ppp_control.specs.declared.negotiation.Negotiation.{Negotiation}
 use Rattle.ppp_control.specs.declared.judging.Verdict.{Verdict}
 use Rattle.ppp_control.specs.declared.judging.Verdict.TheVariants.{Ack, Nak, Reject}
@@ -22,7 +22,7 @@ use Rattle.ppp_control.specs.Given.{Given}
 use Rattle.ppp_control.specs.Step.{left_by, sent_by, sent_by_all, moved, step_sends, packet, requested, request_packet, terminated, terminate_packet, verdict_packet}
 use Rattle.ppp_control.specs.Past.{is_timeout}
 
-abbrev IsNoTimeout : Heard → Type 0
+abbrev IsNoTimeout : HeardAs → Type 0
 IsNoTimeout (Asks items) = Unit {0}
 IsNoTimeout Acked = Unit {0}
 IsNoTimeout (Named items) = Unit {0}
@@ -30,7 +30,7 @@ IsNoTimeout (Rejected items) = Unit {0}
 IsNoTimeout (Event event) = is_timeout (Some event) ≡ false
 IsNoTimeout Discarded = Unit {0}
 
-one_of : (b : Bool) (x y : Heard) → IsNoTimeout x → IsNoTimeout y → IsNoTimeout (cond b x y)
+one_of : (b : Bool) (x y : HeardAs) → IsNoTimeout x → IsNoTimeout y → IsNoTimeout (cond b x y)
 one_of true x y h k = h
 one_of false x y h k = k
 

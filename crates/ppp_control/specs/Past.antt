@@ -1,5 +1,6 @@
 -- What a negotiation has come to, by looking back over what happened (RFC 1661, sections 4.4 to 4.6 and 5).
 use Rattle.std.specs.Prelude.{ℕ, ◌≡◌, ◌+◌, ◌%◌, ◌==◌, min, not, nat_lt, nat_le, ◌&&◌, ◌||◌, Bool, true, false, if◌then◌else◌, Option, Some, None, is_some, option_map, List, [], ◌∷◌, find}
+use Rattle.ppp_base.specs.declared.code.TheConstants.{CODE_REJECT, CONFIGURE_ACK, CONFIGURE_NAK, CONFIGURE_REQUEST, ECHO_REQUEST, TERMINATE_REQUEST}
 use Rattle.ppp_fsm.specs.declared.event.FsmEvent.{FsmEvent}
 use Rattle.ppp_fsm.specs.declared.event.FsmEvent.TheVariants.{Timeout, Rca}
 use Rattle.ppp_fsm.specs.declared.acts.Act.{Act}
@@ -39,7 +40,7 @@ abbrev pub sent_in : List Happened → List Packet
 sent_in [] = []
 sent_in (h ∷ past) = onto h.packets (sent_in past)
 
--- the last one of a code: 1 Configure-Request, 2 Configure-Ack, 3 Configure-Nak, 5 Terminate-Request
+-- the last one of a code
 abbrev pub last_of : ℕ → List Packet → Option Packet
 last_of code sent = find (λ p. p.code == code) sent
 
@@ -47,7 +48,7 @@ abbrev pub request_in : Packet → Request
 request_in p = record { id = p.id; options = items_of p.body }
 
 abbrev pub last_request : List Packet → Option Request
-last_request sent = option_map request_in (last_of 1 sent)
+last_request sent = option_map request_in (last_of CONFIGURE_REQUEST sent)
 
 abbrev pub id_in : Packet → ℕ
 id_in p = p.id
@@ -60,7 +61,7 @@ options_in (Some p) = items_of p.body
 -- how many Naks were sent since the last Ack
 abbrev pub naks_since : List Packet → ℕ
 naks_since [] = 0
-naks_since (p ∷ sent) = if p.code == 2 then 0 else if p.code == 3 then naks_since sent + 1 else naks_since sent
+naks_since (p ∷ sent) = if p.code == CONFIGURE_ACK then 0 else if p.code == CONFIGURE_NAK then naks_since sent + 1 else naks_since sent
 
 -- Whether the restart timer ran out.
 abbrev pub is_timeout : Option FsmEvent → Bool
@@ -71,8 +72,8 @@ is_timeout _ = false
 -- an Echo-Request 9. Each of the others answers the peer, or repeats.
 abbrev pub takes_id : Bool → List Packet → Packet → Bool
 takes_id repeats sent p =
-    if p.code == 1 || p.code == 5 then not (repeats && is_some (last_of p.code sent))
-    else nat_le 7 p.code && nat_le p.code 9
+    if p.code == CONFIGURE_REQUEST || p.code == TERMINATE_REQUEST then not (repeats && is_some (last_of p.code sent))
+    else nat_le CODE_REJECT p.code && nat_le p.code ECHO_REQUEST
 
 abbrev pub taken_by : Bool → List Packet → List Packet → ℕ
 taken_by repeats sent [] = 0
@@ -109,9 +110,9 @@ negotiation_after limits restart_ms past = record {
   fsm = automaton_after limits past;
   next_id = next_id_after past;
   request = last_request (sent_in past);
-  terminate = option_map id_in (last_of 5 (sent_in past));
+  terminate = option_map id_in (last_of TERMINATE_REQUEST (sent_in past));
   naks = min (naks_since (sent_in past)) 255;
-  acknowledged = options_in (last_of 2 (sent_in past));
+  acknowledged = options_in (last_of CONFIGURE_ACK (sent_in past));
   restart_at = restart_after limits restart_ms past;
 }
 
@@ -122,11 +123,11 @@ is_rca _ = false
 
 abbrev pub last_acked : List Happened → Option Packet
 last_acked [] = None
-last_acked (h ∷ past) = if is_rca h.event then last_of 1 (sent_in past) else last_acked past
+last_acked (h ∷ past) = if is_rca h.event then last_of CONFIGURE_REQUEST (sent_in past) else last_acked past
 
 -- In Ack-Rcvd and in Opened that is the last request that was sent.
 abbrev pub has_ack : ℕ → Bool
 has_ack state = state == 7 || state == 9
 
 pub record IsAcked (limits : Limits) (past : List Happened) : Type 0 where
-  pub last : has_ack (automaton_after limits past).state ≡ true → last_of 1 (sent_in past) ≡ last_acked past
+  pub last : has_ack (automaton_after limits past).state ≡ true → last_of CONFIGURE_REQUEST (sent_in past) ≡ last_acked past

@@ -1,5 +1,6 @@
 -- A step of a negotiation: what each act of the automaton sends and changes.
 use Rattle.std.specs.Prelude.{ℕ, ◌+◌, ◌%◌, min, nat_lt, ◌&&◌, if◌then◌else◌, Option, Some, None, is_some, option_map, option_to_list, List, [], ◌∷◌, ◌++◌}
+use Rattle.ppp_base.specs.declared.code.TheConstants.{CODE_REJECT, CONFIGURE_ACK, CONFIGURE_NAK, CONFIGURE_REJECT, CONFIGURE_REQUEST, ECHO_REPLY, TERMINATE_ACK, TERMINATE_REQUEST}
 use Rattle.ppp_fsm.specs.declared.event.FsmEvent.{FsmEvent}
 use Rattle.ppp_fsm.specs.declared.acts.Act.{Act}
 use Rattle.ppp_fsm.specs.declared.acts.Act.TheVariants.{Zrc, Scr, Sca, Scn, Str, Sta, Scj, Ser}
@@ -51,25 +52,25 @@ left_by o n Zrc = restarted o n
 left_by o n _ = n
 
 abbrev pub request_packet : Request → Packet
-request_packet r = packet 1 r.id (laid r.options)
+request_packet r = packet CONFIGURE_REQUEST r.id (laid r.options)
 
 abbrev pub terminate_packet : ℕ → Packet
-terminate_packet id = packet 5 id []
+terminate_packet id = packet TERMINATE_REQUEST id []
 
 abbrev pub verdict_packet : ℕ → Verdict → Option Packet
 verdict_packet id Ack = None
-verdict_packet id (Nak items) = Some (packet 3 id (laid items))
-verdict_packet id (Reject items) = Some (packet 4 id (laid items))
+verdict_packet id (Nak items) = Some (packet CONFIGURE_NAK id (laid items))
+verdict_packet id (Reject items) = Some (packet CONFIGURE_REJECT id (laid items))
 
 -- what an act sends: the last request, or an answer to what was heard
 abbrev pub sent_by : Given → Negotiation → Act → Option Packet
 sent_by o n Scr = option_map request_packet (requested o n).request
 sent_by o n Str = option_map terminate_packet (terminated o n).terminate
-sent_by o n Sca = Some (packet 2 o.id (laid o.theirs))
+sent_by o n Sca = Some (packet CONFIGURE_ACK o.id (laid o.theirs))
 sent_by o n Scn = verdict_packet o.id o.verdict
-sent_by o n Sta = Some (packet 6 o.id [])
-sent_by o n Scj = Some (packet 7 n.next_id o.rejected)
-sent_by o n Ser = option_map (λ body. packet 10 o.id body) o.reply
+sent_by o n Sta = Some (packet TERMINATE_ACK o.id [])
+sent_by o n Scj = Some (packet CODE_REJECT n.next_id o.rejected)
+sent_by o n Ser = option_map (λ body. packet ECHO_REPLY o.id body) o.reply
 sent_by o n _ = None
 
 -- what acts leave and send, in their order

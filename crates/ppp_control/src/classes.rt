@@ -9,7 +9,7 @@ use ppp_packet::{OptionList, Options, Packet};
 
 /// What a packet is.
 #[derive(Drop)]
-pub enum Heard {
+pub enum HeardAs {
     /// A Configure-Request.
     Request(OptionList),
     /// An Ack of our last request.
@@ -27,9 +27,9 @@ pub enum Heard {
 fn is_selection(few: &OptionList, many: &OptionList) -> bool
     ensures { result ≡ is_selection few.now many.now }
 {
-    let mut wanted = few.walk();
+    let mut wanted = few.iter();
     let mut next = wanted.next();
-    let mut walk = many.walk();
+    let mut walk = many.iter();
     'looking: while let Some(have) = walk.next() {
         match next {
             None => return true,
@@ -43,95 +43,95 @@ fn is_selection(few: &OptionList, many: &OptionList) -> bool
     next.is_none()
 }
 
-fn event_if(test: bool, event: FsmEvent) -> Heard
+fn event_if(test: bool, event: FsmEvent) -> HeardAs
     ensures { result ≡ event_if test event }
 {
     if test {
-        Heard::Event(event)
+        HeardAs::Event(event)
     } else {
-        Heard::Discarded
+        HeardAs::Discarded
     }
 }
 
-fn code_reject(rejected: &[u8]) -> Heard
+fn code_reject(rejected: &[u8]) -> HeardAs
     ensures { result ≡ code_reject_heard rejected.now }
 {
     if rejected.is_empty() {
-        return Heard::Discarded;
+        return HeardAs::Discarded;
     }
     if 1 <= rejected[0] && rejected[0] <= 7 {
-        Heard::Event(FsmEvent::RxjBad)
+        HeardAs::Event(FsmEvent::RxjBad)
     } else {
-        Heard::Event(FsmEvent::RxjGood)
+        HeardAs::Event(FsmEvent::RxjGood)
     }
 }
 
-fn ack(request: &Option<Request>, packet: &Packet) -> Heard
+fn ack(request: &Option<Request>, packet: &Packet) -> HeardAs
     ensures { result ≡ ack_heard request.now packet.now }
 {
     match request {
         Some(last) => {
             if last.id == packet.id && packet.body.as_slice() == last.options.as_slice() {
-                Heard::Ack
+                HeardAs::Ack
             } else {
-                Heard::Discarded
+                HeardAs::Discarded
             }
         }
-        None => Heard::Discarded,
+        None => HeardAs::Discarded,
     }
 }
 
-fn nak(request: &Option<Request>, packet: &Packet) -> Heard
+fn nak(request: &Option<Request>, packet: &Packet) -> HeardAs
     ensures { result ≡ nak_heard request.now packet.now }
 {
     match request {
         Some(last) => {
             if last.id != packet.id {
-                return Heard::Discarded;
+                return HeardAs::Discarded;
             }
             match Options::read(packet.body.as_slice()) {
-                Ok(items) => Heard::Nak(items),
-                Err(_) => Heard::Discarded,
+                Ok(items) => HeardAs::Nak(items),
+                Err(_) => HeardAs::Discarded,
             }
         }
-        None => Heard::Discarded,
+        None => HeardAs::Discarded,
     }
 }
 
-fn reject(request: &Option<Request>, packet: &Packet) -> Heard
+fn reject(request: &Option<Request>, packet: &Packet) -> HeardAs
     ensures { result ≡ reject_heard request.now packet.now }
 {
     match request {
         Some(last) => {
             if packet.id != last.id {
-                return Heard::Discarded;
+                return HeardAs::Discarded;
             }
             match Options::read(packet.body.as_slice()) {
                 Ok(items) => {
                     if is_selection(&items, &last.options) {
-                        Heard::Reject(items)
+                        HeardAs::Reject(items)
                     } else {
-                        Heard::Discarded
+                        HeardAs::Discarded
                     }
                 }
-                Err(_) => Heard::Discarded,
+                Err(_) => HeardAs::Discarded,
             }
         }
-        None => Heard::Discarded,
+        None => HeardAs::Discarded,
     }
 }
 
-fn request_of(packet: &Packet) -> Heard
+fn request_of(packet: &Packet) -> HeardAs
     ensures { result ≡ asks_of (read_options packet.now.body) }
 {
     match Options::read(packet.body.as_slice()) {
-        Ok(items) => Heard::Request(items),
-        Err(_) => Heard::Discarded,
+        Ok(items) => HeardAs::Request(items),
+        Err(_) => HeardAs::Discarded,
     }
 }
 
 /// What a packet is, where this was our last request.
-pub fn class(is_lcp: bool, request: &Option<Request>, packet: &Packet) -> Heard
+pub fn class(is_lcp: bool, request: &Option<Request>, packet: &Packet) -> HeardAs
     ensures { result ≡ heard_as is_lcp request.now packet.now }
 {
     match packet.code {
@@ -139,11 +139,11 @@ pub fn class(is_lcp: bool, request: &Option<Request>, packet: &Packet) -> Heard
         2 => ack(request, packet),
         3 => nak(request, packet),
         4 => reject(request, packet),
-        5 => Heard::Event(FsmEvent::Rtr),
-        6 => Heard::Event(FsmEvent::Rta),
+        5 => HeardAs::Event(FsmEvent::Rtr),
+        6 => HeardAs::Event(FsmEvent::Rta),
         7 => code_reject(packet.body.as_slice()),
         8 if is_lcp => event_if(packet.body.as_slice().len() >= 2, FsmEvent::RxjGood),
         9..=11 if is_lcp => event_if(packet.body.as_slice().len() >= 4, FsmEvent::Rxr),
-        _ => Heard::Event(FsmEvent::Ruc),
+        _ => HeardAs::Event(FsmEvent::Ruc),
     }
 }

@@ -43,7 +43,7 @@ pub fn verdict_by<J: Judge>(request: &OptionList, judge: &J, naks: u8, max_failu
     ensures { answer_of result ≡ answer_to (J.judgement judge.now) (nat_le max_failure naks) request.now }
 {
     let mut sorting = Sorting::new();
-    let mut walk = request.walk();
+    let mut walk = request.iter();
     'judging: while let Some(seen) = walk.next() {
         let judged = judge.judged(seen.kind, seen.body);
         sorting.take(seen.kind, seen.body, judged);

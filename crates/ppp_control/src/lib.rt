@@ -17,7 +17,7 @@ mod packets;
 mod parts;
 mod sorting;
 
-pub use classes::{Heard, class};
+pub use classes::{HeardAs, class};
 pub use judging::{Judge, Judged, Verdict, verdict_by};
 pub use negotiation::{Negotiation, StepOut};
 pub use packets::Packets;

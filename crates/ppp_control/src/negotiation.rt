@@ -1,4 +1,5 @@
 ghost use Rattle.std.specs.Prelude.{◌≡◌, ◌<◌, ◌≤◌, ◌+◌, ◌^◌, length, option_map};
+ghost use Rattle.ppp_base.specs.declared.code.TheConstants.{ECHO_REPLY};
 ghost use Rattle.ppp_control.specs.Step.{timed, left_by, sent_by, stepped, step_sends, requested, request_packet, terminated, terminate_packet, answered, verdict_packet, next_of, packet};
 ghost use Rattle.ppp_control.specs.Given.{given};
 ghost use Rattle.ppp_fsm.specs.Fsm.{acts_of};
@@ -6,8 +7,10 @@ ghost use Rattle.ppp_fsm.specs.Fsm.{acts_of};
 use crate::judging::Verdict;
 use crate::packets::Packets;
 use crate::parts::{Occasion, Request};
+use ppp_base::code;
 use ppp_fsm::{Act, Acts, Fsm, FsmEvent, Limits};
 use ppp_packet::{Body, OptionList, Packet};
+use ppp_timer::has_come;
 
 /// A layer's automaton with its packets and its timer.
 #[derive(Drop)]
@@ -35,11 +38,11 @@ pub struct StepOut {
 }
 
 fn reply_of(occasion: &Occasion<'_>) -> Option<Packet>
-    ensures { result ≡ option_map (λ body. packet 10 (given occasion.entry.now).id body) (given occasion.entry.now).reply }
+    ensures { result ≡ option_map (λ body. packet ECHO_REPLY (given occasion.entry.now).id body) (given occasion.entry.now).reply }
 {
     match occasion.reply {
         Some(body) => Some(Packet {
-            code: 10,
+            code: code::ECHO_REPLY,
             id: occasion.id,
             body: body.copy(),
         }),
@@ -97,10 +100,7 @@ impl Negotiation {
     pub fn is_due(&self, now: u64) -> bool
         ensures { result ≡ is_due self.now now }
     {
-        match self.restart_at {
-            Some(at) => at <= now,
-            None => false,
-        }
+        has_come(self.restart_at, now)
     }
 
     /// One event.
@@ -143,14 +143,14 @@ impl Negotiation {
             Act::Sca => Some(self.send_ack(occasion)),
             Act::Scn => self.send_verdict(occasion),
             Act::Sta => Some(Packet {
-                code: 6,
+                code: code::TERMINATE_ACK,
                 id: occasion.id,
                 body: Body::new(),
             }),
             Act::Scj => {
                 let id = self.take_id();
                 Some(Packet {
-                    code: 7,
+                    code: code::CODE_REJECT,
                     id,
                     body: occasion.rejected.copy(),
                 })
@@ -174,7 +174,7 @@ impl Negotiation {
         if occasion.repeats {
             if let Some(request) = &self.request {
                 return Packet {
-                    code: 1,
+                    code: code::CONFIGURE_REQUEST,
                     id: request.id,
                     body: request.options.to_body(),
                 };
@@ -186,7 +186,7 @@ impl Negotiation {
             options: occasion.asked.copy(),
         });
         Packet {
-            code: 1,
+            code: code::CONFIGURE_REQUEST,
             id,
             body: occasion.asked.to_body(),
         }
@@ -201,7 +201,7 @@ impl Negotiation {
         if occasion.repeats {
             if let Some(id) = self.terminate {
                 return Packet {
-                    code: 5,
+                    code: code::TERMINATE_REQUEST,
                     id,
                     body: Body::new(),
                 };
@@ -210,7 +210,7 @@ impl Negotiation {
         let id = self.take_id();
         self.terminate = Some(id);
         Packet {
-            code: 5,
+            code: code::TERMINATE_REQUEST,
             id,
             body: Body::new(),
         }
@@ -223,7 +223,7 @@ impl Negotiation {
         self.naks = 0;
         self.acknowledged = occasion.theirs.copy();
         Packet {
-            code: 2,
+            code: code::CONFIGURE_ACK,
             id: occasion.id,
             body: occasion.theirs.to_body(),
         }
@@ -238,13 +238,13 @@ impl Negotiation {
             Verdict::Nak(items) => {
                 self.naks = self.naks.saturating_add(1);
                 Some(Packet {
-                    code: 3,
+                    code: code::CONFIGURE_NAK,
                     id: occasion.id,
                     body: items.to_body(),
                 })
             }
             Verdict::Reject(items) => Some(Packet {
-                code: 4,
+                code: code::CONFIGURE_REJECT,
                 id: occasion.id,
                 body: items.to_body(),
             }),

@@ -1,4 +1,6 @@
+pub mod Acts
 pub mod Fsm
 pub mod Opening
 pub mod State
 pub mod Steps
+pub mod TableTest

@@ -1,4 +1,5 @@
 ghost use Rattle.std.specs.Prelude.{◌≡◌, [], ◌∷◌};
+ghost use Rattle.ppp_fsm.specs.Acts.{has};
 
 use arrayvec::ArrayVec;
 use std::marker::Model;
@@ -84,6 +85,20 @@ impl Acts {
         list.push(second);
         list.push(third);
         Acts { list }
+    }
+
+    /// Whether this act is among them.
+    pub fn has(&self, act: Act) -> bool
+        ensures { result ≡ has act self.now }
+    {
+        let mut left = self.list.as_slice();
+        'looking: while let [first, others @ ..] = left {
+            if *first as u8 == act as u8 {
+                return true;
+            }
+            left = others;
+        }
+        false
     }
 
     /// The acts, in order.

@@ -19,14 +19,14 @@ pub struct Limits {
 }
 
 impl Limits {
-    /// The counter after a first Configure-Request.
+    // The counter after a first Configure-Request.
     pub(crate) fn configure_sent(self) -> u8
         ensures { result ≡ self.configure - 1 }
     {
         self.configure - 1
     }
 
-    /// The counter after a first Terminate-Request.
+    // The counter after a first Terminate-Request.
     pub(crate) fn terminate_sent(self) -> u8
         ensures { result ≡ self.terminate - 1 }
     {

@@ -31,14 +31,14 @@ impl Move {
     }
 }
 
-/// The counter after a request that isn't the first.
+// The counter after a request that isn't the first.
 fn lowered(counter: u8) -> u8
     ensures { result ≡ counter - 1 }
 {
     counter.saturating_sub(1)
 }
 
-/// What an event does in Initial.
+// What an event does in Initial.
 pub(crate) fn initial(limits: Limits, counter: u8, event: FsmEvent) -> Move
     ensures { Makes limits 0 counter event result }
 {
@@ -50,7 +50,7 @@ pub(crate) fn initial(limits: Limits, counter: u8, event: FsmEvent) -> Move
     }
 }
 
-/// What an event does in Starting.
+// What an event does in Starting.
 pub(crate) fn starting(limits: Limits, counter: u8, event: FsmEvent) -> Move
     ensures { Makes limits 1 counter event result }
 {
@@ -66,7 +66,7 @@ pub(crate) fn starting(limits: Limits, counter: u8, event: FsmEvent) -> Move
     }
 }
 
-/// What an event does in Closed.
+// What an event does in Closed.
 pub(crate) fn closed(limits: Limits, counter: u8, event: FsmEvent) -> Move
     ensures { Makes limits 2 counter event result }
 {
@@ -90,7 +90,7 @@ pub(crate) fn closed(limits: Limits, counter: u8, event: FsmEvent) -> Move
     }
 }
 
-/// What an event does in Stopped.
+// What an event does in Stopped.
 pub(crate) fn stopped(limits: Limits, counter: u8, event: FsmEvent) -> Move
     ensures { Makes limits 3 counter event result }
 {
@@ -123,7 +123,7 @@ pub(crate) fn stopped(limits: Limits, counter: u8, event: FsmEvent) -> Move
     }
 }
 
-/// What an event does in Closing.
+// What an event does in Closing.
 pub(crate) fn closing(limits: Limits, counter: u8, event: FsmEvent) -> Move
     ensures { Makes limits 4 counter event result }
 {
@@ -150,7 +150,7 @@ pub(crate) fn closing(limits: Limits, counter: u8, event: FsmEvent) -> Move
     }
 }
 
-/// What an event does in Stopping.
+// What an event does in Stopping.
 pub(crate) fn stopping(limits: Limits, counter: u8, event: FsmEvent) -> Move
     ensures { Makes limits 5 counter event result }
 {
@@ -177,7 +177,7 @@ pub(crate) fn stopping(limits: Limits, counter: u8, event: FsmEvent) -> Move
     }
 }
 
-/// What an event does in ReqSent.
+// What an event does in ReqSent.
 pub(crate) fn req_sent(limits: Limits, counter: u8, event: FsmEvent) -> Move
     ensures { Makes limits 6 counter event result }
 {
@@ -214,7 +214,7 @@ pub(crate) fn req_sent(limits: Limits, counter: u8, event: FsmEvent) -> Move
     }
 }
 
-/// What an event does in AckRcvd.
+// What an event does in AckRcvd.
 pub(crate) fn ack_rcvd(limits: Limits, counter: u8, event: FsmEvent) -> Move
     ensures { Makes limits 7 counter event result }
 {
@@ -247,7 +247,7 @@ pub(crate) fn ack_rcvd(limits: Limits, counter: u8, event: FsmEvent) -> Move
     }
 }
 
-/// What an event does in AckSent.
+// What an event does in AckSent.
 pub(crate) fn ack_sent(limits: Limits, counter: u8, event: FsmEvent) -> Move
     ensures { Makes limits 8 counter event result }
 {
@@ -288,7 +288,7 @@ pub(crate) fn ack_sent(limits: Limits, counter: u8, event: FsmEvent) -> Move
     }
 }
 
-/// What an event does in Opened.
+// What an event does in Opened.
 pub(crate) fn opened(limits: Limits, counter: u8, event: FsmEvent) -> Move
     ensures { Makes limits 9 counter event result }
 {

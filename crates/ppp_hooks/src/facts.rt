@@ -1,7 +1,7 @@
 ghost use Rattle.std.specs.Prelude.{◌≡◌, ℕ, ◌+◌, ◌-◌, ◌^◌, ◌<◌, ◌≤◌, ◌∷◌, List, None, Some, option_map, if◌then◌else◌, nat_lt};
 ghost use Rattle.ppp_hooks.specs.HookFacts.{settled, start_due, with_open, with_closed, with_end, up_of, down_of, start_key, opening_number, StandsFor, HasArgs, started, no_facts};
 ghost use Rattle.ppp_hooks.specs.HookMark.{HookMark, Opened, Closed, Ended};
-ghost use Rattle.ppp_hooks.specs.HookPast.{not_started_by};
+ghost use Rattle.ppp_hooks.specs.HookPast.{not_started_by, starts_in, ends_in, greatest_in};
 ghost use Rattle.ppp_hooks.specs.HookRule.{due_after, with_due};
 ghost use Rattle.ppp_hooks.specs.HookWords.{words_of_start, script_for};
 
@@ -40,9 +40,9 @@ pub struct HookStart {
     pub opening: u32,
 }
 
-/// What a machine knows of its openings and starts.
+/// What a machine knows of its openings and starts, without a spawner: logic that has none keeps these alone.
 #[derive(Drop)]
-pub(crate) struct HookFacts {
+pub struct HookFacts {
     pub(crate) now_open: Option<Opening>,
     pub(crate) last: Option<Start>,
     pub(crate) greatest: u32,
@@ -110,7 +110,8 @@ fn failures(answer: ScriptEnd) -> u32
 }
 
 impl HookFacts {
-    pub(crate) fn new() -> HookFacts
+    /// Those of a protocol that is closed, with no start so far.
+    pub fn new() -> HookFacts
         ensures { result ≡ no_facts }
     {
         HookFacts {
@@ -136,8 +137,8 @@ impl HookFacts {
         }
     }
 
-    /// The protocol has opened.
-    pub(crate) fn opened(&mut self, number: u32, args: HookArgs)
+    /// The protocol has opened, under this number. Its scripts are told these arguments.
+    pub fn opened(&mut self, number: u32, args: HookArgs)
         requires closed { self.old.now_open ≡ None }
         requires above { self.old.greatest < number }
         requires room { self.old.starts < 2 ^ 32 - 1 }
@@ -152,7 +153,7 @@ impl HookFacts {
     }
 
     /// The protocol has closed.
-    pub(crate) fn closed(&mut self)
+    pub fn closed(&mut self)
         requires { self.old.starts < 2 ^ 32 - 1 }
         ensures now { self.new ≡ settled (with_closed self.old) }
         ensures stands { (past : List HookMark) (n : ℕ) → StandsFor self.old past → opening_number self.old.now_open ≡ Some n
@@ -165,7 +166,7 @@ impl HookFacts {
     }
 
     /// The script that runs has ended.
-    pub(crate) fn ended(&mut self, answer: ScriptEnd)
+    pub fn ended(&mut self, answer: ScriptEnd)
         requires room { self.old.starts < 2 ^ 32 - 1 }
         requires runs { self.old.ends < self.old.starts }
         requires failed { self.old.not_started ≤ self.old.ends }
@@ -181,7 +182,7 @@ impl HookFacts {
     }
 
     /// The words of the last start.
-    pub(crate) fn words(&self, target: HookTarget) -> Option<HookWords>
+    pub fn words(&self, target: HookTarget) -> Option<HookWords>
         ensures { result ≡ words_of_start target self.now.last }
     {
         self.last.as_ref().map(|start| HookWords {
@@ -190,7 +191,8 @@ impl HookFacts {
         })
     }
 
-    pub(crate) fn last_start(&self) -> Option<HookStart>
+    /// The last start.
+    pub fn last_start(&self) -> Option<HookStart>
         ensures { option_map (λ (s : HookStart). (s.up, s.opening)) result ≡ option_map start_key self.now.last }
     {
         self.last.as_ref().map(|start| HookStart {
@@ -199,14 +201,15 @@ impl HookFacts {
         })
     }
 
-    pub(crate) fn open_number(&self) -> Option<u32>
+    /// The number of the opening that is open.
+    pub fn open_number(&self) -> Option<u32>
         ensures { result ≡ opening_number self.now.now_open }
     {
         self.now_open.as_ref().map(|opening| opening.number)
     }
 
     /// The number of the job that runs.
-    pub(crate) fn running(&self) -> Option<u32>
+    pub fn running(&self) -> Option<u32>
         ensures { result ≡ (if nat_lt self.now.ends self.now.starts then Some self.now.starts else None) }
     {
         if self.ends < self.starts {
@@ -214,5 +217,29 @@ impl HookFacts {
         } else {
             None
         }
+    }
+
+    /// The greatest number of an opening so far, 0 where there was none.
+    pub fn greatest(&self) -> u32
+        ensures value { result ≡ self.now.greatest }
+        ensures of_past { (past : List HookMark) → StandsFor self.now past → result ≡ greatest_in past }
+    {
+        self.greatest
+    }
+
+    /// How many scripts were started.
+    pub fn starts(&self) -> u32
+        ensures value { result ≡ self.now.starts }
+        ensures of_past { (past : List HookMark) → StandsFor self.now past → result ≡ starts_in past }
+    {
+        self.starts
+    }
+
+    /// How many scripts have ended.
+    pub fn ends(&self) -> u32
+        ensures value { result ≡ self.now.ends }
+        ensures of_past { (past : List HookMark) → StandsFor self.now past → result ≡ ends_in past }
+    {
+        self.ends
     }
 }

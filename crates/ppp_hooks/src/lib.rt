@@ -9,12 +9,11 @@
 
 mod facts;
 mod job;
-mod laws;
+pub mod laws;
 mod machine;
 #[cfg(test)]
 mod tests;
 
-pub use facts::HookStart;
+pub use facts::{HookFacts, HookStart};
 pub use job::{HookDone, HookJob};
-pub use laws::{closing_while_up_runs, law_of_calls, law_of_past};
 pub use machine::HookMachine;

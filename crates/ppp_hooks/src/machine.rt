@@ -3,7 +3,7 @@ ghost use Rattle.ppp_hooks.specs.HookCall.{HookCall, Opens, Closes, TakesJob, En
 ghost use Rattle.ppp_hooks.specs.HookCounts.{MachineCounts, JobCounts, DoneCounts};
 ghost use Rattle.ppp_hooks.specs.HookFacts.{StandsFor, HasArgs, settled, started, with_open, with_closed, with_end, start_key, opening_number, no_facts};
 ghost use Rattle.ppp_hooks.specs.HookMark.{HookMark, Opened, Closed, Ended};
-ghost use Rattle.ppp_hooks.specs.HookPast.{starts_in, ends_in, open_in, last_in};
+ghost use Rattle.ppp_hooks.specs.HookPast.{starts_in, ends_in, open_in, greatest_in, last_in};
 ghost use Rattle.ppp_hooks.specs.HookRule.{due_after, with_due};
 ghost use Rattle.ppp_hooks.specs.HookRuns.{MachineTells, GivenLast, IsFaithful};
 ghost use Rattle.ppp_hooks.specs.HookState.{JobState};
@@ -146,6 +146,8 @@ impl<S: Spawner> HookMachine<S> {
             → job.target ≡ self.old.target → GivenLast S.runs before given past job → IsFaithful S.runs job done
             → OnOk result (MachineTells S.runs before given (with_due (Ended done.answer done.number ∷ past)) self.new) }
 
+        // As many had ended as were started, but for this one.
+        ensures counted { OnOk result (self.old.facts.starts ≡ self.old.facts.ends + 1) }
         ensures unchanged { OnErr result (self.new ≡ self.old) }
         ensures given_back { IfErr result (λ back. back ≡ done) }
     {
@@ -177,6 +179,14 @@ impl<S: Spawner> HookMachine<S> {
         self.facts.open_number()
     }
 
+    /// The greatest number of an opening so far, 0 where there was none.
+    pub fn greatest(&self) -> u32
+        ensures value { result ≡ self.now.facts.greatest }
+        ensures of_past { (past : List HookMark) → StandsFor self.now.facts past → result ≡ greatest_in past }
+    {
+        self.facts.greatest()
+    }
+
     /// The number of the job that runs, from its start to its end.
     pub fn running(&self) -> Option<u32>
         ensures value { result ≡ (if nat_lt self.now.facts.ends self.now.facts.starts then Some self.now.facts.starts else None) }
@@ -191,7 +201,7 @@ impl<S: Spawner> HookMachine<S> {
         ensures value { result ≡ self.now.facts.starts }
         ensures of_past { (past : List HookMark) → StandsFor self.now.facts past → result ≡ starts_in past }
     {
-        self.facts.starts
+        self.facts.starts()
     }
 
     /// How many scripts have ended.
@@ -200,6 +210,6 @@ impl<S: Spawner> HookMachine<S> {
         ensures of_past { (past : List HookMark) → StandsFor self.now.facts past → result ≡ ends_in past }
         ensures one_at_a_time { (result ≤ self.now.facts.starts) × (self.now.facts.starts ≤ result + 1) }
     {
-        self.facts.ends
+        self.facts.ends()
     }
 }

@@ -1,6 +1,6 @@
 ghost use Rattle.std.specs.Prelude.{◌≡◌, ◌≤◌};
 
-use crate::facts::HookStart;
+use crate::facts::{HookFacts, HookStart};
 use crate::job::HookJob;
 use crate::machine::HookMachine;
 use ppp_base::{HookTarget, LinkId, Name, Unit};
@@ -8,6 +8,7 @@ use ppp_outside::{
     HookArgs, HookScript, HookWords, MemorySpawner, ReplaySpawner, ScriptEnd, Spawner,
 };
 use std::alloc::Global;
+use std::test::Fail;
 
 // A spawner whose answer tells its words: the script as 10, 20, 30 or 40, and the last octet of the remote address.
 #[derive(Drop)]
@@ -253,4 +254,25 @@ fn another_machines_job(rt: HostRuntime) {
             assert!(rt; machine.ended(done).is_ok());
         }
     }
+}
+
+#[test]
+fn facts_without_a_spawner(rt: HostRuntime) -> Result<(), Fail> {
+    let link = LinkId::new(1).expect(&rt, "in range");
+    let target = HookTarget::Link(link);
+    let mut facts = HookFacts::new();
+    assert!(rt; facts.words(target).is_none() && facts.last_start().is_none());
+    facts.opened(4, args(4));
+    assert!(rt; facts.open_number() == Some(4) && facts.running() == Some(1));
+    facts.closed();
+    facts.ended(ScriptEnd::Exit(0));
+    let down = HookStart {
+        up: false,
+        opening: 4,
+    };
+    assert!(rt; facts.last_start() == Some(down) && facts.open_number().is_none());
+    assert_eq!(rt; (facts.greatest(), facts.starts(), facts.ends()), (4, 2, 1));
+    let words = facts.words(target).expect(&rt, "a script runs");
+    assert!(rt; words.script == HookScript::AuthDown);
+    Ok(())
 }

@@ -12,8 +12,8 @@ use Rattle.ppp_packet.specs.OptionsOf.{Item}
 use Rattle.ppp_packet.proofs.Laying.{items_of-laid}
 use Rattle.ppp_control.specs.declared.judging.Verdict.{Verdict}
 use Rattle.ppp_control.specs.declared.judging.Verdict.TheVariants.{Ack, Nak, Reject}
-use Rattle.ppp_control.specs.declared.classes.Heard.{Heard}
-use Rattle.ppp_control.specs.declared.classes.Heard.TheVariants.{Request as Asks, Ack as Acked, Nak as Named, Reject as Rejected, Event, Discarded}
+use Rattle.ppp_control.specs.declared.classes.HeardAs.{HeardAs}
+use Rattle.ppp_control.specs.declared.classes.HeardAs.TheVariants.{Request as Asks, Ack as Acked, Nak as Named, Reject as Rejected, Event, Discarded}
 use Rattle.ppp_control.specs.Class.{heard_as, class_of}
 use Rattle.ppp_control.specs.Given.{Given}
 use Rattle.ppp_control.specs.declared.negotiation.Negotiation.{Negotiation}
@@ -98,7 +98,7 @@ never false = refl
 same_count : (opened : Bool) (n m : ℕ) → n ≡ m → n ≡ cond (opened && false) 0 m
 same_count opened n m e = e ∙ ap (λ b. cond b 0 m) (sym (never opened))
 
-heard_stands : (words : ℕ) (past : List Happened) (event : FsmEvent) (g : Given) (p : Packet) (l m : Lcp) (h : Heard) → h ≡ heard_in past p → StandsFor words l past
+heard_stands : (words : ℕ) (past : List Happened) (event : FsmEvent) (g : Given) (p : Packet) (l m : Lcp) (h : HeardAs) → h ≡ heard_in past p → StandsFor words l past
     → m.wish ≡ l.wish → m.core ≡ l.core → m.echo_at ≡ l.echo_at → g.restart_ms ≡ m.wish.restart_s * 1000 → g.repeats ≡ is_timeout (Some event)
     → m.ours ≡ ours_after l.wish words (marks_heard (step_sends g event m.core) h ++ answers_in l.wish past)
     → m.loops ≡ min (in_a_row (own_by (ours_in l.wish words past).magic h ++ own_requests l.wish words past)) 255
@@ -155,7 +155,7 @@ request_stands words past now p items l e s =
     (same_count (is_open_in l.wish past) l.unanswered _ (ap (λ (x : Lcp). x.unanswered) sess)) in
     subst (λ (x : FsmEvent). StandsFor words (heard_lcp l p now (Asks items)) (call now (Some p) (Some x) (heard_told l p now (Asks items)) ∷ past)) (named_event v) stands
 
-other_stands : (words : ℕ) (past : List Happened) (now : ℕ) (p : Packet) (h : Heard) (l : Lcp) → h ≡ heard_in past p → StandsFor words l past
+other_stands : (words : ℕ) (past : List Happened) (now : ℕ) (p : Packet) (h : HeardAs) (l : Lcp) → h ≡ heard_in past p → StandsFor words l past
     → StandsFor words (heard_lcp l p now h) (call now (Some p) (class_of (acks_in l h) h) (heard_told l p now h) ∷ past)
 other_stands words past now p (Asks items) l e s = request_stands words past now p items l e s
 other_stands words past now p Acked l e s =
@@ -183,7 +183,7 @@ other_stands words past now p Discarded l e s = discarded_stands words now l.loo
 pub stands_heard : (words : ℕ) (past : List Happened) (now : ℕ) (p : Packet) (l new : Lcp) (out : LcpOut)
     → new ≡ heard_lcp l p now (heard_as true l.core.request p) → out ≡ heard_told l p now (heard_as true l.core.request p) → StandsFor words l past → StandsFor words new (call now (Some p) (Class l p) out ∷ past)
 stands_heard words past now p l new out left told s =
-    let h : Heard = heard_as true l.core.request p in
+    let h : HeardAs = heard_as true l.core.request p in
     let e : h ≡ heard_in past p = ap (λ (x : Lcp). heard_as true x.core.request p) s.session in
     subst (λ (x : Lcp). StandsFor words x (call now (Some p) (Class l p) out ∷ past)) (sym left)
     (subst (λ (x : LcpOut). StandsFor words (heard_lcp l p now h) (call now (Some p) (Class l p) x ∷ past)) (sym told) (other_stands words past now p h l e s))

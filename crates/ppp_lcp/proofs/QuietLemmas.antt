@@ -1,10 +1,11 @@
 -- What a call leaves at which no event happens: nothing changes, an Echo-Request is sent, or a Protocol-Reject is.
 use Rattle.std.proofs.Common.{◌≡◌, ℕ, ◌+◌, ◌*◌, Bool, true, false, cond, Option, Some, None, List, [], ◌∷◌, ◌++◌, refl, ap, sym, ◌∙◌, subst}
 use Rattle.std.specs.Prelude.{◌==◌, ◌&&◌, ◌||◌, not, min}
+use Rattle.ppp_timer.specs.Due.{has_come}
 use Rattle.ppp_fsm.specs.declared.event.FsmEvent.TheVariants.{Timeout}
 use Rattle.ppp_packet.specs.declared.packet.Packet.{Packet}
-use Rattle.ppp_control.specs.declared.classes.Heard.TheVariants.{Discarded}
-use Rattle.ppp_control.specs.Start.{is_due, is_past}
+use Rattle.ppp_control.specs.declared.classes.HeardAs.TheVariants.{Discarded}
+use Rattle.ppp_control.specs.Start.{is_due}
 use Rattle.ppp_control.specs.Step.{next_of, packet}
 use Rattle.ppp_control.specs.Past.{Happened}
 use Rattle.ppp_control.proofs.TimingLemmas.{quiet_back, numbered_back}
@@ -80,18 +81,18 @@ unfolding nothing
 discarded_stands words now loops p l past q h = quiet_stands words now (Some p) l past q h
 
 -- an Echo-Request that is due
-is_due_open : (was : Bool) (wish : LcpWish) (now : ℕ) (past : List Happened) → was ≡ is_open_in wish past → is_past (echo_after wish past) now ≡ true → is_open_in wish past ≡ true
+is_due_open : (was : Bool) (wish : LcpWish) (now : ℕ) (past : List Happened) → was ≡ is_open_in wish past → has_come now (echo_after wish past) ≡ true → is_open_in wish past ≡ true
 is_due_open true wish now past e f = sym e
-is_due_open false wish now past e f = absurd (let g : false ≡ true = ap (λ x. is_past x now) (sym (closed_echo wish past (sym e))) ∙ f in cc)
+is_due_open false wish now past e f = absurd (let g : false ≡ true = ap (λ x. has_come now x) (sym (closed_echo wish past (sym e))) ∙ f in cc)
 
-echo_stands : (words now id : ℕ) (body : List ℕ) (l : Lcp) (past : List Happened) → is_past l.echo_at now ≡ true → StandsFor words l past
+echo_stands : (words now id : ℕ) (body : List ℕ) (l : Lcp) (past : List Happened) → has_come now l.echo_at ≡ true → StandsFor words l past
     → StandsFor words (record l { core = record l.core { next_id = next_of l.core.next_id }; unanswered = min (l.unanswered + 1) 255; echo_at = next_echo l.wish now }) (record { now = now; heard = None; event = None; acts = []; packets = packet 9 id body ∷ [] } ∷ past)
 echo_stands words now id body l past due h =
     let wish : LcpWish = l.wish in
     let s = h.session in
     let was : Bool = is_open_in wish past in
     let n : ℕ = unanswered_in wish words past in
-    let in_opened : was ≡ true = is_due_open was wish now past refl (ap (λ (x : Lcp). is_past x.echo_at now) (sym s) ∙ due) in
+    let in_opened : was ≡ true = is_due_open was wish now past refl (ap (λ (x : Lcp). has_come now x.echo_at) (sym s) ∙ due) in
     record {
       session = same_lcp _ _ refl (ap (λ (x : Lcp). x.ours) s)
           (ap (λ (x : Lcp). record x.core { next_id = next_of x.core.next_id }) s ∙ sym (numbered_back wish.limits (wish.restart_s * 1000) now true id body past))
@@ -131,7 +132,7 @@ stands_reject words past protocol information l new out left told h =
     (subst (λ (x : LcpOut). StandsFor words (rejecting l) (call 0 None None x ∷ past)) (sym told) (by_rejecting (l.core.fsm.state == 9) words _ _ _ l past h))
 
 -- the timers
-by_echo : (due failed : Bool) (words now id loops most : ℕ) (body : List ℕ) (l : Lcp) (past : List Happened) → is_past l.echo_at now ≡ due → StandsFor words l past
+by_echo : (due failed : Bool) (words now id loops most : ℕ) (body : List ℕ) (l : Lcp) (past : List Happened) → has_come now l.echo_at ≡ due → StandsFor words l past
     → StandsFor words (cond (due && not failed) (record l { core = record l.core { next_id = next_of l.core.next_id }; unanswered = min (l.unanswered + 1) 255; echo_at = next_echo l.wish now }) l)
     (call now None None (cond due (cond failed (record (no_event loops) { unanswered = most }) (out_of [] (packet 9 id body ∷ []) loops)) (no_event loops)) ∷ past)
 unfolding nothing
@@ -142,7 +143,7 @@ by_echo false failed words now id loops most body l past e h = quiet_stands word
 by_timer : (due : Bool) (words now : ℕ) (l : Lcp) (past : List Happened) → StandsFor words l past
     → StandsFor words (cond due (event_left Timeout true now l) (echoed l now)) (call now None (cond due (Some Timeout) None) (cond due (event_told Timeout true now l) (echo_told l now)) ∷ past)
 by_timer true words now l past h = stands_event words past Timeout true now l _ _ refl refl refl h
-by_timer false words now l past h = by_echo (is_past l.echo_at now) (is_failed l) words now _ _ _ _ l past refl h
+by_timer false words now l past h = by_echo (has_come now l.echo_at) (is_failed l) words now _ _ _ _ l past refl h
 
 pub stands_tick : (words : ℕ) (past : List Happened) (now : ℕ) (l new : Lcp) (out : LcpOut)
     → new ≡ ticked l now → out ≡ ticked_told l now → StandsFor words l past → StandsFor words new (call now None (cond (is_due l.core now) (Some Timeout) None) out ∷ past)

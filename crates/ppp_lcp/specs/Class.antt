@@ -6,8 +6,8 @@ use Rattle.ppp_fsm.specs.Fsm.{Automaton, acts_of}
 use Rattle.ppp_packet.specs.declared.packet.Packet.{Packet}
 use Rattle.ppp_control.specs.declared.judging.Verdict.{Verdict}
 use Rattle.ppp_control.specs.declared.judging.Verdict.TheVariants.{Ack, Nak, Reject}
-use Rattle.ppp_control.specs.declared.classes.Heard.{Heard}
-use Rattle.ppp_control.specs.declared.classes.Heard.TheVariants.{Request as Asks, Ack as Acked, Nak as Named, Reject as Rejected, Event, Discarded}
+use Rattle.ppp_control.specs.declared.classes.HeardAs.{HeardAs}
+use Rattle.ppp_control.specs.declared.classes.HeardAs.TheVariants.{Request as Asks, Ack as Acked, Nak as Named, Reject as Rejected, Event, Discarded}
 use Rattle.ppp_control.specs.Class.{heard_as, class_of}
 use Rattle.ppp_lcp.specs.declared.lcp.Lcp.{Lcp}
 use Rattle.ppp_lcp.specs.Negotiating.{verdict_on}
@@ -18,7 +18,7 @@ is_ack (Nak items) = false
 is_ack (Reject items) = false
 
 -- whether it is a request that we acknowledge
-abbrev pub acks_in : Lcp → Heard → Bool
+abbrev pub acks_in : Lcp → HeardAs → Bool
 acks_in l (Asks items) = is_ack (verdict_on l items)
 acks_in l Acked = false
 acks_in l (Named items) = false

@@ -2,20 +2,23 @@
 use Rattle.std.specs.Int.{to_be_bytes, w32}
 use Rattle.std.specs.Prelude.{is_none, length, drop, min, not, ℕ, ◌+◌, ◌*◌, ◌==◌, ◌&&◌, ◌||◌, nat_le, Bool, true, false, if◌then◌else◌, Option, Some, None, List, [], ◌∷◌, ◌++◌}
 use Rattle.std.specs.List.{list_any}
+use Rattle.ppp_timer.specs.Due.{has_come}
+use Rattle.ppp_base.specs.declared.code.TheConstants.{ECHO_REPLY, ECHO_REQUEST, PROTOCOL_REJECT}
+use Rattle.ppp_base.specs.declared.protocol.TheConstants.{CHAP, IPCP, MULTILINK, PAP}
 use Rattle.ppp_fsm.specs.declared.event.FsmEvent.{FsmEvent}
 use Rattle.ppp_fsm.specs.declared.event.FsmEvent.TheVariants.{Up, Open, Timeout, Rca, Rcn}
 use Rattle.ppp_packet.specs.declared.packet.Packet.{Packet}
 use Rattle.ppp_packet.specs.OptionsOf.{Item}
 use Rattle.ppp_control.specs.declared.judging.Verdict.{Verdict}
 use Rattle.ppp_control.specs.declared.judging.Verdict.TheVariants.{Ack}
-use Rattle.ppp_control.specs.declared.classes.Heard.{Heard}
-use Rattle.ppp_control.specs.declared.classes.Heard.TheVariants.{Request as Asks, Ack as Acked, Nak, Reject, Event, Discarded}
+use Rattle.ppp_control.specs.declared.classes.HeardAs.{HeardAs}
+use Rattle.ppp_control.specs.declared.classes.HeardAs.TheVariants.{Request as Asks, Ack as Acked, Nak, Reject, Event, Discarded}
 use Rattle.ppp_fsm.specs.declared.acts.Act.{Act}
 use Rattle.ppp_fsm.specs.declared.acts.Act.TheVariants.{Scn}
 use Rattle.ppp_fsm.specs.Fsm.{acts_of}
 use Rattle.ppp_control.specs.Class.{last_options}
 use Rattle.ppp_control.specs.Given.{Given}
-use Rattle.ppp_control.specs.Start.{is_due, is_past}
+use Rattle.ppp_control.specs.Start.{is_due}
 use Rattle.ppp_control.specs.Step.{stepped, step_sends, next_of, packet}
 use Rattle.ppp_lcp.specs.declared.lcp.Lcp.{Lcp}
 use Rattle.ppp_lcp.specs.Ours.{asks, after_nak, after_reject, skipped, word_of, drawn}
@@ -36,11 +39,11 @@ is_magic magic body = not (magic == 0) && number4 body == magic
 
 -- The reply to an Echo-Request has our magic number, and its data behind that.
 abbrev pub reply_to : ℕ → Packet → Option (List ℕ)
-reply_to magic p = if p.code == 9 && nat_le 4 (length p.body) then Some (to_be_bytes w32 magic ++ drop 4 p.body) else None
+reply_to magic p = if p.code == ECHO_REQUEST && nat_le 4 (length p.body) then Some (to_be_bytes w32 magic ++ drop 4 p.body) else None
 
 -- An Echo-Reply in Opened, unless it has our own magic number: nothing is unanswered.
 abbrev pub is_answer : Lcp → Packet → Bool
-is_answer l p = l.core.fsm.state == 9 && p.code == 10 && nat_le 4 (length p.body) && not (is_magic l.ours.magic p.body)
+is_answer l p = l.core.fsm.state == 9 && p.code == ECHO_REPLY && nat_le 4 (length p.body) && not (is_magic l.ours.magic p.body)
 
 abbrev pub with_reply : Lcp → Packet → Lcp
 with_reply l p = record l { unanswered = if is_answer l p then 0 else l.unanswered }
@@ -136,7 +139,7 @@ abbrev pub with_reject : Lcp → List Item → Lcp
 with_reject l items = record l { ours = after_reject l.ours items }
 
 -- what a packet leaves, and what is sent for it
-abbrev pub heard_lcp : Lcp → Packet → ℕ → Heard → Lcp
+abbrev pub heard_lcp : Lcp → Packet → ℕ → HeardAs → Lcp
 heard_lcp l p now (Asks items) = after_request (with_loops l items) p items now
 heard_lcp l p now Acked = lcp_step Rca (by_packet l p now) l
 heard_lcp l p now (Nak items) = lcp_step Rcn (by_packet (with_nak l items) p now) (with_nak l items)
@@ -152,19 +155,19 @@ names_kind kind (i ∷ items) = i.kind == kind || names_kind kind items
 -- The protocols without which the link is of no use: IPCP and multilink, and in Opened that of an agreed method.
 abbrev pub is_proved_by : ℕ → Option Method → Bool
 is_proved_by protocol None = false
-is_proved_by protocol (Some Pap) = protocol == 0xc023
-is_proved_by protocol (Some Chap) = protocol == 0xc223
+is_proved_by protocol (Some Pap) = protocol == PAP
+is_proved_by protocol (Some Chap) = protocol == CHAP
 
 abbrev pub is_needed : Lcp → ℕ → Bool
 is_needed l protocol =
-    protocol == 0x8021 || protocol == 0x003d
+    protocol == IPCP || protocol == MULTILINK
     || (l.core.fsm.state == 9 && (is_proved_by protocol (method_in l.core.acknowledged) || is_proved_by protocol (method_in (last_options l.core.request))))
 
 abbrev pub refused_by : Lcp → Packet → Option ℕ
-refused_by l p = if p.code == 8 && nat_le 2 (length p.body) && is_needed l (number2 p.body) then Some (number2 p.body) else None
+refused_by l p = if p.code == PROTOCOL_REJECT && nat_le 2 (length p.body) && is_needed l (number2 p.body) then Some (number2 p.body) else None
 
 -- what is told of a packet
-abbrev pub heard_told : Lcp → Packet → ℕ → Heard → LcpOut
+abbrev pub heard_told : Lcp → Packet → ℕ → HeardAs → LcpOut
 heard_told l p now (Asks items) = event_out (event_on (verdict_on l items)) (answering l p items now) (with_loops l items)
 heard_told l p now Acked = event_out Rca (by_packet l p now) l
 heard_told l p now (Nak items) = event_out Rcn (by_packet (with_nak l items) p now) l
@@ -178,14 +181,14 @@ is_failed l = not (l.wish.echo_failure == 0) && l.unanswered == l.wish.echo_fail
 
 abbrev pub echoed : Lcp → ℕ → Lcp
 echoed l now =
-    if is_past l.echo_at now && not (is_failed l)
+    if has_come now l.echo_at && not (is_failed l)
     then record l { core = record l.core { next_id = next_of l.core.next_id }; unanswered = min (l.unanswered + 1) 255; echo_at = next_echo l.wish now }
     else l
 
 abbrev pub echo_told : Lcp → ℕ → LcpOut
 echo_told l now =
-    if is_past l.echo_at now
-    then (if is_failed l then record (no_event l.loops) { unanswered = l.wish.echo_failure } else out_of [] (packet 9 l.core.next_id (to_be_bytes w32 l.ours.magic) ∷ []) l.loops)
+    if has_come now l.echo_at
+    then (if is_failed l then record (no_event l.loops) { unanswered = l.wish.echo_failure } else out_of [] (packet ECHO_REQUEST l.core.next_id (to_be_bytes w32 l.ours.magic) ∷ []) l.loops)
     else no_event l.loops
 
 -- A restart timer that is due is a timeout; else the echo timer is looked at.
@@ -205,7 +208,7 @@ rejecting l = if l.core.fsm.state == 9 then record l { core = record l.core { ne
 abbrev pub rejecting_told : Lcp → ℕ → List ℕ → LcpOut
 rejecting_told l protocol information =
     if l.core.fsm.state == 9
-    then out_of [] (packet 8 l.core.next_id (cut_information (peer_mru l) protocol information) ∷ []) l.loops
+    then out_of [] (packet PROTOCOL_REJECT l.core.next_id (cut_information (peer_mru l) protocol information) ∷ []) l.loops
     else no_event l.loops
 
 -- What has been agreed on is told in Opened alone.

@@ -1,12 +1,13 @@
 -- What a session of LCP has come to, by looking back over what happened in it (RFC 1661, sections 4.6, 5 and 6.4).
 use Rattle.std.specs.Prelude.{ℕ, ◌≡◌, ◌+◌, ◌*◌, ◌==◌, ◌&&◌, ◌||◌, min, not, nat_le, Bool, true, false, if◌then◌else◌, Option, Some, None, is_none, List, [], ◌∷◌, ◌++◌, length}
 use Rattle.std.specs.List.{list_any}
+use Rattle.ppp_base.specs.declared.code.TheConstants.{CONFIGURE_ACK, CONFIGURE_NAK, ECHO_REPLY, ECHO_REQUEST}
 use Rattle.ppp_fsm.specs.declared.event.FsmEvent.{FsmEvent}
 use Rattle.ppp_packet.specs.declared.packet.Packet.{Packet}
 use Rattle.ppp_packet.specs.declared.agreed.Agreed.{Agreed}
 use Rattle.ppp_packet.specs.OptionList.{items_of}
-use Rattle.ppp_control.specs.declared.classes.Heard.{Heard}
-use Rattle.ppp_control.specs.declared.classes.Heard.TheVariants.{Request as Asks, Ack as Acked, Nak, Reject, Event, Discarded}
+use Rattle.ppp_control.specs.declared.classes.HeardAs.{HeardAs}
+use Rattle.ppp_control.specs.declared.classes.HeardAs.TheVariants.{Request as Asks, Ack as Acked, Nak, Reject, Event, Discarded}
 use Rattle.ppp_control.specs.Class.{heard_as}
 use Rattle.ppp_control.specs.Past.{Happened, automaton_after, sent_in, last_of, last_request, options_in, last_acked, negotiation_after, IsAcked}
 use Rattle.ppp_lcp.specs.declared.lcp.Lcp.{Lcp}
@@ -18,7 +19,7 @@ use Rattle.ppp_lcp.specs.Ours.{Mark, first_asked, heard_nak, heard_reject, sent_
 use Rattle.ppp_lcp.specs.Negotiating.{begins, is_loop, is_magic, next_echo}
 
 -- what a packet is, given the last request that was sent
-abbrev pub heard_in : List Happened → Packet → Heard
+abbrev pub heard_in : List Happened → Packet → HeardAs
 heard_in past p = heard_as true (last_request (sent_in past)) p
 
 abbrev pub is_open_in : LcpWish → List Happened → Bool
@@ -27,9 +28,9 @@ is_open_in wish past = (automaton_after wish.limits past).state == 9
 -- What changes our options, the newest first: our first request, as Up comes in Starting or Open in Closed; each Nak and Reject of our last request;
 -- and each Nak with a magic number that we sent.
 abbrev pub is_magic_nak : Packet → Bool
-is_magic_nak p = p.code == 3 && names_magic (items_of p.body)
+is_magic_nak p = p.code == CONFIGURE_NAK && names_magic (items_of p.body)
 
-abbrev pub marks_heard : List Packet → Heard → List Mark
+abbrev pub marks_heard : List Packet → HeardAs → List Mark
 marks_heard packets (Asks items) = if list_any is_magic_nak packets then sent_magic ∷ [] else []
 marks_heard packets Acked = []
 marks_heard packets (Nak items) = heard_nak items ∷ []
@@ -57,7 +58,7 @@ abbrev pub magic_in : LcpWish → ℕ → List Happened → ℕ
 magic_in wish words past = (ours_in wish words past).magic
 
 -- Of each request that was heard, the newest first, whether it had our own magic number then.
-abbrev pub own_by : ℕ → Heard → List Bool
+abbrev pub own_by : ℕ → HeardAs → List Bool
 own_by magic (Asks items) = is_loop magic items ∷ []
 own_by magic Acked = []
 own_by magic (Nak items) = []
@@ -81,7 +82,7 @@ in_a_row (false ∷ rest) = 0
 
 -- An echo is due so long after the last Echo-Request, or after Opened was entered; in Opened alone.
 abbrev pub sends_echo : List Packet → Bool
-sends_echo packets = list_any (λ p. p.code == 9) packets
+sends_echo packets = list_any (λ p. p.code == ECHO_REQUEST) packets
 
 abbrev pub echo_after : LcpWish → List Happened → Option ℕ
 echo_after wish [] = None
@@ -91,8 +92,8 @@ echo_after wish (h ∷ past) =
     else None
 
 -- An Echo-Reply in Opened that isn't our own echo.
-abbrev pub is_reply_by : ℕ → Packet → Heard → Bool
-is_reply_by magic p (Event event) = p.code == 10 && nat_le 4 (length p.body) && not (is_magic magic p.body)
+abbrev pub is_reply_by : ℕ → Packet → HeardAs → Bool
+is_reply_by magic p (Event event) = p.code == ECHO_REPLY && nat_le 4 (length p.body) && not (is_magic magic p.body)
 is_reply_by magic p (Asks items) = false
 is_reply_by magic p Acked = false
 is_reply_by magic p (Nak items) = false
@@ -134,4 +135,4 @@ call now heard event out = record { now = now; heard = heard; event = event; act
 
 -- What is agreed on, in Opened alone: by the last request of ours that the peer acknowledged, and the last of the peer's that we did.
 abbrev pub agreed_after : LcpWish → List Happened → Option Agreed
-agreed_after wish past = if is_open_in wish past then Some (agreed_by (options_in (last_acked past)) (options_in (last_of 2 (sent_in past)))) else None
+agreed_after wish past = if is_open_in wish past then Some (agreed_by (options_in (last_acked past)) (options_in (last_of CONFIGURE_ACK (sent_in past)))) else None

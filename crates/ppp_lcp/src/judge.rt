@@ -8,14 +8,14 @@ use crate::wish::LcpWish;
 use ppp_control::{Judge, Judged, Verdict, verdict_by};
 use ppp_packet::OptionList;
 
-/// Whether CHAP with MD5 is asked for.
+// Whether CHAP with MD5 is asked for.
 pub(crate) fn is_chap(body: &[u8]) -> bool
     ensures { result ≡ is_chap body.now }
 {
     body.len() == 3 && body[0] == 0xc2 && body[1] == 0x23 && body[2] == 0x05
 }
 
-/// Whether PAP is asked for.
+// Whether PAP is asked for.
 pub(crate) fn is_pap(body: &[u8]) -> bool
     ensures { result ≡ is_pap body.now }
 {
@@ -33,7 +33,7 @@ fn acked_if(test: bool) -> Judged<'static>
     }
 }
 
-/// The number that two octets are.
+// The number that two octets are.
 pub(crate) fn number2(body: &[u8]) -> u16
     requires { 2 ≤ length body.now }
     ensures { result ≡ number2 body.now }
@@ -41,7 +41,7 @@ pub(crate) fn number2(body: &[u8]) -> u16
     body[0] as u16 * 256 + body[1] as u16
 }
 
-/// The number that four octets are.
+// The number that four octets are.
 pub(crate) fn number4(body: &[u8]) -> u32
     requires { 4 ≤ length body.now }
     ensures { result ≡ number4 body.now }
@@ -157,7 +157,7 @@ fn answer(
     verdict_by(request, &judge, naks, wish.max_failure)
 }
 
-/// The answer where multilink may have been rejected.
+// The answer where multilink may have been rejected.
 pub(crate) fn verdict_where(
     request: &OptionList,
     wish: &LcpWish,

@@ -6,11 +6,11 @@ use crate::judge::{is_chap, is_pap, number2, number4};
 use ppp_base::{Disc, Mrru, SendSettings};
 use ppp_packet::{Agreed, Method, OptionList};
 
-/// The data of the last option of a type.
+// The data of the last option of a type.
 pub(crate) fn last_body(items: &OptionList, kind: u8) -> Option<&[u8]>
     ensures { option_copied result ≡ last_body kind items.now }
 {
-    let mut walk = items.walk();
+    let mut walk = items.iter();
     let mut found = None;
     'finding: while let Some(seen) = walk.next() {
         if seen.kind == kind {
@@ -20,7 +20,7 @@ pub(crate) fn last_body(items: &OptionList, kind: u8) -> Option<&[u8]>
     found
 }
 
-/// The number of an option's two octets.
+// The number of an option's two octets.
 pub(crate) fn number2_or(body: Option<&[u8]>, default: u16) -> u16
     ensures { result ≡ number2_or (option_copied body.entry) default }
 {
@@ -36,7 +36,7 @@ pub(crate) fn number2_or(body: Option<&[u8]>, default: u16) -> u16
     }
 }
 
-/// The number of an option's four octets.
+// The number of an option's four octets.
 pub(crate) fn number4_or(body: Option<&[u8]>, default: u32) -> u32
     ensures { result ≡ number4_or (option_copied body.entry) default }
 {
@@ -69,7 +69,7 @@ fn method_of(body: Option<&[u8]>) -> Option<Method>
     }
 }
 
-/// By what the sender of these options wants the other end to prove who it is.
+// By what the sender of these options wants the other end to prove who it is.
 pub(crate) fn method_in(items: &OptionList) -> Option<Method>
     ensures { result ≡ method_in items.now }
 {
@@ -119,7 +119,7 @@ fn mrru_pair(ours: Option<u16>, theirs: Option<u16>) -> Option<Mrru>
     }
 }
 
-/// What the options of two requests mean, ours and the peer's.
+// What the options of two requests mean, ours and the peer's.
 pub(crate) fn agreed_by(ours: &OptionList, theirs: &OptionList) -> Agreed
     ensures { result ≡ agreed_by ours.now theirs.now }
 {

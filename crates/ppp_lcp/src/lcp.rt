@@ -8,9 +8,11 @@ use crate::magic::{cut, cut_information, names_magic};
 use crate::ours::Ours;
 use crate::out::LcpOut;
 use crate::wish::LcpWish;
-use ppp_control::{Heard, Negotiation, Occasion, Verdict, class};
+use ppp_base::{code, protocol};
+use ppp_control::{HeardAs, Negotiation, Occasion, Verdict, class};
 use ppp_fsm::{Act, Acts, FsmEvent};
 use ppp_packet::{Agreed, Body, Method, OptionList, Packet};
+use ppp_timer::has_come;
 
 fn event_of(verdict: &Verdict) -> FsmEvent
     ensures { result ≡ event_on verdict.now }
@@ -37,8 +39,8 @@ fn is_proved_by(protocol: u16, method: Option<Method>) -> bool
     ensures { result ≡ is_proved_by protocol method }
 {
     match method {
-        Some(Method::Pap) => protocol == 0xc023,
-        Some(Method::Chap) => protocol == 0xc223,
+        Some(Method::Pap) => protocol == protocol::PAP,
+        Some(Method::Chap) => protocol == protocol::CHAP,
         None => false,
     }
 }
@@ -47,7 +49,7 @@ fn is_proved_by(protocol: u16, method: Option<Method>) -> bool
 fn names_kind(items: &OptionList, kind: u8) -> bool
     ensures { result ≡ names_kind kind items.now }
 {
-    let mut walk = items.walk();
+    let mut walk = items.iter();
     let mut is_named = false;
     'seeking: while let Some(seen) = walk.next() {
         is_named = is_named || seen.kind == kind;
@@ -81,7 +83,8 @@ impl Lcp {
     ghost use Rattle.ppp_lcp.specs.Session.{StandsFor, call, agreed_after};
     ghost use Rattle.ppp_control.specs.Past.{Happened};
     ghost use Rattle.ppp_control.specs.Class.{heard_as, last_options};
-    ghost use Rattle.ppp_control.specs.Start.{started, is_past};
+    ghost use Rattle.ppp_timer.specs.Due.{has_come};
+    ghost use Rattle.ppp_control.specs.Start.{started};
     ghost use Rattle.ppp_lcp.specs.Last.{method_in};
     ghost use Rattle.ppp_lcp.specs.Negotiating.{begun, event_left, event_told, event_out, tick_event, ticked, ticked_told, lcp_step, by_packet, verdict_on, answering, after_request, heard_lcp, heard_told, settled, next_echo, reply_to, with_reply, is_magic, with_loops, is_loop, echoed, echo_told, peer_mru, limit_of, is_needed, refused_by, rejecting, rejecting_told, agreed_in, is_failed};
 
@@ -226,29 +229,29 @@ impl Lcp {
         ensures told { result ≡ heard_told self.old packet.now now (heard_as true self.old.core.request packet.now) }
     {
         match class(true, self.core.request(), packet) {
-            Heard::Request(items) => {
+            HeardAs::Request(items) => {
                 self.count_loop(&items);
                 self.answer(packet, &items, now)
             }
-            Heard::Ack => self.heard_event(FsmEvent::Rca, packet, now),
-            Heard::Nak(items) => {
+            HeardAs::Ack => self.heard_event(FsmEvent::Rca, packet, now),
+            HeardAs::Nak(items) => {
                 self.ours.take_nak(&self.wish, &items);
                 self.heard_event(FsmEvent::Rcn, packet, now)
             }
-            Heard::Reject(items) => {
+            HeardAs::Reject(items) => {
                 self.ours.take_reject(&items);
                 let mut out = self.heard_event(FsmEvent::Rcn, packet, now);
                 out.auth_refused = names_kind(&items, 3);
                 out
             }
-            Heard::Event(event) => {
+            HeardAs::Event(event) => {
                 let refused = self.refused(packet);
                 self.take_reply(packet);
                 let mut out = self.heard_event(event, packet, now);
                 out.network_refused = refused;
                 out
             }
-            Heard::Discarded => LcpOut::none(self.loops),
+            HeardAs::Discarded => LcpOut::none(self.loops),
         }
     }
 
@@ -262,7 +265,7 @@ impl Lcp {
             let limit = usize::from(self.peer_mru());
             let id = self.core.take_id();
             out.packets.push(Packet {
-                code: 8,
+                code: code::PROTOCOL_REJECT,
                 id,
                 body: cut_information(protocol, information, limit),
             });
@@ -337,7 +340,7 @@ impl Lcp {
         ensures { result ≡ reply_to self.now.ours.magic packet.now }
     {
         let body = packet.body.as_slice();
-        if packet.code != 9 || body.len() < 4 {
+        if packet.code != code::ECHO_REQUEST || body.len() < 4 {
             return None;
         }
         let mut reply = Body::new();
@@ -351,7 +354,7 @@ impl Lcp {
         ensures { self.new ≡ with_reply self.old packet.now }
     {
         let body = packet.body.as_slice();
-        if self.core.state() == 9 && packet.code == 10 && body.len() >= 4 && !self.is_ours(body) {
+        if self.core.state() == 9 && packet.code == code::ECHO_REPLY && body.len() >= 4 && !self.is_ours(body) {
             self.unanswered = 0;
         }
     }
@@ -399,7 +402,7 @@ impl Lcp {
         self.echo_at = self.next_echo(now);
         let mut body = Body::new();
         body.append(&self.ours.magic.to_be_bytes());
-        out.packets.push(Packet { code: 9, id, body });
+        out.packets.push(Packet { code: code::ECHO_REQUEST, id, body });
         out
     }
 
@@ -410,12 +413,9 @@ impl Lcp {
     }
 
     fn is_echo_due(&self, now: u64) -> bool
-        ensures { result ≡ is_past self.now.echo_at now }
+        ensures { result ≡ has_come now self.now.echo_at }
     {
-        match self.echo_at {
-            Some(at) => at <= now,
-            None => false,
-        }
+        has_come(self.echo_at, now)
     }
 
     // The most octets of information that the peer takes.
@@ -452,7 +452,7 @@ impl Lcp {
     fn is_needed(&self, protocol: u16) -> bool
         ensures { result ≡ is_needed self.now protocol }
     {
-        if protocol == 0x8021 || protocol == 0x003d {
+        if protocol == protocol::IPCP || protocol == protocol::MULTILINK {
             return true;
         }
         self.core.state() == 9
@@ -465,7 +465,7 @@ impl Lcp {
         ensures { result ≡ refused_by self.now packet.now }
     {
         let body = packet.body.as_slice();
-        if packet.code != 8 || body.len() < 2 {
+        if packet.code != code::PROTOCOL_REJECT || body.len() < 2 {
             return None;
         }
         let protocol = number2(body);

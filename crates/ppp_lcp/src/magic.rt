@@ -11,7 +11,7 @@ use ppp_packet::{Body, OptionList, Packet};
 fn has_magic(items: &OptionList) -> bool
     ensures { result ≡ names_magic items.now }
 {
-    let mut walk = items.walk();
+    let mut walk = items.iter();
     let mut is_magic = false;
     'seeking: while let Some(seen) = walk.next() {
         is_magic = is_magic || (seen.kind == 5 && seen.body.len() == 4);
@@ -19,7 +19,7 @@ fn has_magic(items: &OptionList) -> bool
     is_magic
 }
 
-/// Whether the verdict is a Nak with a magic number.
+// Whether the verdict is a Nak with a magic number.
 pub(crate) fn names_magic(verdict: &Verdict) -> bool
     ensures { result ≡ has_magic verdict.now }
 {
@@ -41,7 +41,7 @@ fn up_to(octets: &[u8], limit: usize) -> &[u8]
     }
 }
 
-/// What a Code-Reject of a packet carries, where it may have so many octets.
+// What a Code-Reject of a packet carries, where it may have so many octets.
 pub(crate) fn cut(packet: &Packet, limit: usize) -> Body
     requires { limit ≤ 1500 }
     ensures { result ≡ cut_packet limit packet.now }
@@ -61,7 +61,7 @@ pub(crate) fn cut(packet: &Packet, limit: usize) -> Body
     body
 }
 
-/// What a Protocol-Reject carries, where it may have so many octets.
+// What a Protocol-Reject carries, where it may have so many octets.
 pub(crate) fn cut_information(protocol: u16, information: &[u8], limit: usize) -> Body
     requires { limit ≤ 1500 }
     ensures { result ≡ cut_information limit protocol information.now }

@@ -231,7 +231,7 @@ impl Ours {
     pub fn take_nak(&mut self, wish: &LcpWish, items: &OptionList)
         ensures { self.new ≡ after_nak wish.now self.old items.now }
     {
-        let mut walk = items.walk();
+        let mut walk = items.iter();
         let mut is_magic = false;
         'taking: while let Some(seen) = walk.next() {
             is_magic = is_magic || (seen.kind == 5 && seen.body.len() == 4);
@@ -265,7 +265,7 @@ impl Ours {
     pub fn take_reject(&mut self, items: &OptionList)
         ensures { self.new ≡ after_reject self.old items.now }
     {
-        let mut walk = items.walk();
+        let mut walk = items.iter();
         'leaving: while let Some(seen) = walk.next() {
             self.leave_out(seen.kind);
         }

@@ -1,16 +1,9 @@
 -- The arguments of site scripts (pppd(8), "Scripts").
-use Rattle.std.specs.Prelude.{ℕ, ◌+◌, ◌/◌, ◌%◌, List, [], ◌∷◌, ◌++◌, codes, nat_lt, if◌then◌else◌, slice_index}
+use Rattle.std.specs.Prelude.{ℕ, List, [], ◌∷◌, ◌++◌, codes, decimal, slice_index}
 use Rattle.ppp_outside.specs.declared.hook_words.HookWords.{HookWords}
 use Rattle.ppp_outside.specs.declared.hook_words.HookArgs.{HookArgs}
 use Rattle.ppp_outside.specs.declared.hook_words.HookScript.{HookScript}
 use Rattle.ppp_outside.specs.declared.hook_words.HookScript.TheVariants.{IpUp, IpDown, AuthUp, AuthDown}
-
--- a number below 1000 in decimal, without leading zeros
-abbrev pub decimal : ℕ → List ℕ
-decimal n =
-    if nat_lt n 10
-    then (48 + n) ∷ []
-    else (if nat_lt n 100 then (48 + n / 10) ∷ (48 + n % 10) ∷ [] else (48 + n / 100) ∷ (48 + n / 10 % 10) ∷ (48 + n % 10) ∷ [])
 
 -- an IP address as its four octets in decimal with dots between them
 abbrev pub dotted : List ℕ → List ℕ

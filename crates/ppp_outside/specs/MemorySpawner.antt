@@ -1,5 +1,5 @@
 -- What contracts see of the spawners in memory.
-use Rattle.std.specs.Prelude.{ℕ, ◌+◌, Bool, true, false, Option, None, Some, List, length, nat_lt, nat_eq, not, ◌||◌, ◌++◌, if◌then◌else◌}
+use Rattle.std.specs.Prelude.{ℕ, Bool, List, length, nat_lt, nat_eq, not, ◌||◌, ◌++◌, if◌then◌else◌}
 use Rattle.std.specs.List.{list_any}
 use Rattle.ppp_outside.specs.Counts.{raised}
 use Rattle.ppp_outside.specs.Spawner.{failed, ran_by}

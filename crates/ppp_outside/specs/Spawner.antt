@@ -1,5 +1,5 @@
 -- What one call of `run` does to a spawner.
-use Rattle.std.specs.Prelude.{ℕ, ◌≡◌, Bool, true, false, Option, List, [], ◌∷◌, ◌++◌, option_map}
+use Rattle.std.specs.Prelude.{◌≡◌, Bool, true, false, Option, List, [], ◌∷◌, ◌++◌, option_map}
 use Rattle.ppp_outside.specs.declared.hook_words.HookWords.{HookWords}
 use Rattle.ppp_outside.specs.declared.spawner.Ran.{Ran}
 use Rattle.ppp_outside.specs.declared.spawner.ScriptEnd.{ScriptEnd}

@@ -1,6 +1,7 @@
-ghost use Rattle.std.specs.Prelude.{◌≡◌, ℕ, ◌+◌, ◌≤◌, List, ◌++◌, length, slice_get};
-ghost use Rattle.ppp_outside.specs.HookWords.{texts_of, decimal, dotted, interface_of};
+ghost use Rattle.std.specs.Prelude.{◌≡◌, ℕ, ◌+◌, ◌≤◌, List, ◌++◌, length, slice_get, decimal};
+ghost use Rattle.ppp_outside.specs.HookWords.{texts_of, dotted, interface_of};
 
+use itoa::Buffer;
 use ppp_base::{Name, Unit};
 
 /// The site scripts: ip-up and ip-down run as the network comes and goes, auth-up and auth-down as a peer has
@@ -61,18 +62,15 @@ impl HookWords {
     }
 }
 
-// Appends a number in decimal.
+// Appends a number in decimal: at most three digits.
+#[tactic(auto, using(crate::proofs::Digits::three_digits))]
 fn push_decimal(text: &mut Name, number: u8)
     requires { length text.old + 3 ≤ 255 }
-    ensures { text.new ≡ text.old ++ decimal number }
+    ensures value { text.new ≡ text.old ++ decimal number }
+    ensures few { length text.new ≤ length text.old + 3 }
 {
-    if number >= 100 {
-        text.push(b'0' + number / 100);
-    }
-    if number >= 10 {
-        text.push(b'0' + number / 10 % 10);
-    }
-    text.push(b'0' + number % 10);
+    let mut digits = Buffer::new();
+    text.append(digits.format(number).as_bytes());
 }
 
 fn short(text: &[u8]) -> Name

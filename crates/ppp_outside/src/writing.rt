@@ -80,7 +80,7 @@ impl TextWriter {
         self.sound
     }
 
-    /// Writes what waits.
+    // Writes what waits.
     fn flush<O: Sink>(&mut self, output: &mut O)
         ensures empty { self.new.waiting ≡ [] }
         ensures put { Puts self.old self.new (O.state output.old) (O.state output.new) [] }
@@ -91,7 +91,7 @@ impl TextWriter {
         self.page.clear();
     }
 
-    /// Puts a piece where nothing waits. A piece above a page goes to the sink at once.
+    // Puts a piece where nothing waits. A piece above a page goes to the sink at once.
     fn put_on_empty<O: Sink>(&mut self, output: &mut O, piece: &[u8])
         requires { self.old.waiting ≡ [] }
         ensures { Puts self.old self.new (O.state output.old) (O.state output.new) piece.now }

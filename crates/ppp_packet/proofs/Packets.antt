@@ -1,8 +1,10 @@
 -- Which octets are a packet.
-use Rattle.std.proofs.Common.{◌≡◌, ℕ, ◌+◌, ◌-◌, ◌/◌, ◌%◌, ◌<◌, ◌≤◌, inl, inr, List, [], ◌∷◌, ◌++◌, length, take, drop, slice_index, ap, sym, ◌∙◌, arith, length-append, length-take}
+use Rattle.std.proofs.Common.{Bool, true, false, Some, None, refl, ◌≡◌, ℕ, ◌+◌, ◌-◌, ◌/◌, ◌%◌, ◌<◌, ◌≤◌, inl, inr, List, [], ◌∷◌, ◌++◌, length, take, drop, slice_index, ap, sym, ◌∙◌, arith, length-append, length-take}
 use Rattle.std.proofs.lemmas.Grind.{common_steps}
+use Rattle.std.specs.Prelude.{nat_le, ◌&&◌}
+use Rattle.std.proofs.lemmas.Bool.Decides.{nat_tests}
 use Rattle.byteorder.specs.Endian.{big_number}
-use Rattle.ppp_packet.specs.PacketOf.{PacketOf, laid_packet, length_field, HasBadLength}
+use Rattle.ppp_packet.specs.PacketOf.{PacketOf, laid_packet, length_field, HasBadLength, has_good_length, packet_in}
 use Rattle.ppp_packet.specs.declared.packet.Packet.{Packet}
 use Rattle.ppp_packet.proofs.Laying.{take-front}
 
@@ -72,3 +74,47 @@ two_octets (a ∷ []) four = absurd (omega (arith, four))
 two_octets (a ∷ b ∷ []) four = absurd (omega (arith, four))
 two_octets (a ∷ b ∷ c ∷ []) four = absurd (omega (arith, four))
 two_octets (a ∷ b ∷ c ∷ d ∷ rest) four = omega arith
+
+few : (octets : List ℕ) → length octets < 4 → nat_le 4 (length octets) ≡ false
+few octets h = grind (arith, nat_tests)
+
+enough : (octets : List ℕ) → 4 ≤ length octets → nat_le 4 (length octets) ≡ true
+enough octets h = grind (arith, nat_tests)
+
+-- fewer than four octets are no packet
+pub short_is_none : (octets : List ℕ) → length octets < 4 → packet_in octets ≡ None
+unfolding packet_in
+short_is_none octets h = rw (few octets h) refl
+
+bad : (octets : List ℕ) → HasBadLength octets → has_good_length octets ≡ false
+bad octets (inl low) = let l : nat_le 4 (length_field octets) ≡ false = grind (arith, nat_tests) in rw l refl
+bad octets (inr (inl cut)) =
+    let c : nat_le (length_field octets) (length octets) ≡ false = grind (arith, nat_tests) in
+    rw c (no_good (nat_le 4 (length_field octets)) (nat_le (length_field octets) 1508))
+  where
+    no_good : (a b : Bool) → (a && (false && b)) ≡ false
+    no_good true b = refl
+    no_good false b = refl
+bad octets (inr (inr high)) =
+    let h : nat_le (length_field octets) 1508 ≡ false = grind (arith, nat_tests) in
+    rw h (no_good (nat_le 4 (length_field octets)) (nat_le (length_field octets) (length octets)))
+  where
+    no_good : (a b : Bool) → (a && (b && false)) ≡ false
+    no_good true true = refl
+    no_good true false = refl
+    no_good false b = refl
+
+-- octets with a bad length are no packet
+pub bad_is_none : (octets : List ℕ) → 4 ≤ length octets → HasBadLength octets → packet_in octets ≡ None
+unfolding packet_in
+bad_is_none octets four h = rw (enough octets four, bad octets h) refl
+
+-- octets with a good length are their front
+pub good_is_some : (octets : List ℕ) (size : ℕ) → 4 ≤ length octets → size ≡ length_field octets → 4 ≤ size → size ≤ length octets → size ≤ 1508
+    → packet_in octets ≡ Some (packet_of (slice_index octets 0) (slice_index octets 1) (take (size - 4) (drop 4 octets)))
+unfolding packet_in
+good_is_some octets size four is low there high =
+    let l : nat_le 4 (length_field octets) ≡ true = grind (arith, nat_tests) in
+    let t : nat_le (length_field octets) (length octets) ≡ true = grind (arith, nat_tests) in
+    let h : nat_le (length_field octets) 1508 ≡ true = grind (arith, nat_tests) in
+    rw (enough octets four, l, t, h) (ap (λ n. Some (packet_of (slice_index octets 0) (slice_index octets 1) (take (n - 4) (drop 4 octets)))) (sym is))

@@ -1,4 +1,4 @@
-use crate::item_body::ItemBody;
+use crate::body::ItemBody;
 
 /// An option (RFC 1661, section 6).
 #[derive(Debug, Default, PartialEq, Eq, Drop)]

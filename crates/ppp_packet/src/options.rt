@@ -4,15 +4,14 @@ ghost use Rattle.ppp_packet.specs.OptionsOf.{Item, item, laid, laid_item, IsFaul
 ghost use Rattle.ppp_packet.specs.OptionList.{read_options};
 ghost use Rattle.ppp_packet.specs.declared.fault.OptionFault.{OptionFault};
 
-use crate::body::Body;
+use crate::body::{Body, ItemBody, MOST_BODY, MOST_ITEM_BODY};
 use crate::fault::OptionFault;
-use crate::item_body::ItemBody;
 use crate::option_item::OptionItem;
 use std::marker::Model;
 
 /// An option as it lies in its list.
 #[derive(Clone, Copy)]
-pub struct Seen<'a> {
+pub struct OptionRef<'a> {
     pub kind: u8,
     pub body: &'a [u8],
 }
@@ -29,7 +28,7 @@ struct Split<'a> {
 fn first_item(octets: &[u8]) -> Result<Split<'_>, OptionFault>
     requires { 0 < length octets.now }
     ensures found { MatchResult result (λ s. octets.now ≡ laid_item (item s.kind s.body.now) ++ s.rest.now) (λ fault. IsFault fault octets.now) }
-    ensures short { IfOk result (λ s. length s.body.now ≤ 253) }
+    ensures short { IfOk result (λ s. length s.body.now ≤ MOST_ITEM_BODY) }
 {
     if octets.len() < 2 {
         return Err(OptionFault::Cut);
@@ -71,7 +70,7 @@ pub struct Options;
 impl Options {
     /// Reads options.
     pub fn read(bytes: &[u8]) -> Result<OptionList, OptionFault>
-        requires { length bytes.now ≤ 1504 }
+        requires { length bytes.now ≤ MOST_BODY }
         ensures found { MatchResult result (λ list. OptionsOf bytes.now list) (λ fault. FaultOf bytes.now fault) }
         ensures alone { (items : List Item) → OptionsOf bytes.now items → result ≡ Ok items }
         ensures first_fault { (fault : OptionFault) → FaultOf bytes.now fault → result ≡ Err fault }
@@ -82,7 +81,7 @@ impl Options {
 
     // The options, or the first fault.
     fn find(bytes: &[u8]) -> Result<OptionList, OptionFault>
-        requires { length bytes.now ≤ 1504 }
+        requires { length bytes.now ≤ MOST_BODY }
         ensures { MatchResult result (λ list. OptionsOf bytes.now list) (λ fault. FaultOf bytes.now fault) }
     {
         let mut left = bytes;
@@ -115,7 +114,7 @@ impl OptionList {
     /// The octets.
     pub fn as_slice(&self) -> &[u8]
         ensures octets { result.now ≡ laid self.now }
-        ensures within { length result.now ≤ 1504 }
+        ensures within { length result.now ≤ MOST_BODY }
     {
         self.octets.as_slice()
     }
@@ -139,7 +138,7 @@ impl OptionList {
     /// How many octets there are.
     pub fn size(&self) -> usize
         ensures size { result ≡ length (laid self.now) }
-        ensures within { result ≤ 1504 }
+        ensures within { result ≤ MOST_BODY }
     {
         self.as_slice().len()
     }
@@ -153,8 +152,8 @@ impl OptionList {
 
     /// Appends an option.
     pub fn push(&mut self, kind: u8, body: &[u8])
-        requires short { length body.now ≤ 253 }
-        requires room { length (laid self.old) + (length body.now + 2) ≤ 1504 }
+        requires short { length body.now ≤ MOST_ITEM_BODY }
+        requires room { length (laid self.old) + (length body.now + 2) ≤ MOST_BODY }
         ensures { self.new ≡ self.old ++ item kind body.now ∷ [] }
     {
         self.octets.push(kind);
@@ -167,10 +166,10 @@ impl OptionList {
         ensures count { result ≡ length self.now }
         ensures within { result ≤ 752 }
     {
-        let mut walk = self.walk();
+        let mut items = self.iter();
         let mut count = 0;
         'counting: loop {
-            match walk.next() {
+            match items.next() {
                 Some(_) => count += 1,
                 None => return count,
             }
@@ -182,11 +181,11 @@ impl OptionList {
         ensures { MatchOption result (length self.now ≤ at)
             (λ found. slice_get self.now at ≡ Some (item found.kind found.body)) }
     {
-        let mut walk = self.walk();
+        let mut items = self.iter();
         'passing: for _passed in 0..at {
-            walk.next()?;
+            items.next()?;
         }
-        let seen = walk.next()?;
+        let seen = items.next()?;
         let mut body = ItemBody::new();
         body.append(seen.body);
         Some(OptionItem {
@@ -196,11 +195,11 @@ impl OptionList {
     }
 
     /// Goes through the options.
-    pub fn walk(&self) -> Walk<'_>
+    pub fn iter(&self) -> OptionIter<'_>
         ensures items { result ≡ self.now }
-        ensures within { length (laid result) ≤ 1504 }
+        ensures within { length (laid result) ≤ MOST_BODY }
     {
-        Walk {
+        OptionIter {
             left: self.octets.as_slice(),
         }
     }
@@ -208,11 +207,11 @@ impl OptionList {
 
 /// The options that are left to see.
 #[derive(Drop)]
-pub struct Walk<'a> {
+pub struct OptionIter<'a> {
     left: &'a [u8],
 }
 
-impl<'a> Model for Walk<'a> {
+impl<'a> Model for OptionIter<'a> {
     ghost use Rattle.std.specs.Prelude.{List};
     ghost use Rattle.ppp_packet.specs.OptionsOf.{Item};
     ghost use Rattle.ppp_packet.specs.OptionList.{items_of, IsLaid};
@@ -224,11 +223,11 @@ impl<'a> Model for Walk<'a> {
     ghost invariant = { λ w. IsLaid w.left.now };
 }
 
-impl<'a> Walk<'a> {
+impl<'a> OptionIter<'a> {
     /// The next option.
-    pub fn next(&mut self) -> Option<Seen<'a>>
+    pub fn next(&mut self) -> Option<OptionRef<'a>>
         ensures item { MatchOption result (self.old ≡ []) (λ s. self.old ≡ item s.kind s.body.now ∷ self.new) }
-        ensures short { IfSome result (λ s. length s.body.now ≤ 253) }
+        ensures short { IfSome result (λ s. length s.body.now ≤ MOST_ITEM_BODY) }
         ensures ended { IfNone result (self.new ≡ []) }
     {
         if self.left.len() == 0 {
@@ -237,7 +236,7 @@ impl<'a> Walk<'a> {
         match first_item(self.left) {
             Ok(split) => {
                 self.left = split.rest;
-                Some(Seen {
+                Some(OptionRef {
                     kind: split.kind,
                     body: split.body,
                 })

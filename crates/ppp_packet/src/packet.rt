@@ -1,6 +1,7 @@
 ghost use Rattle.std.specs.Prelude.{◌≡◌, ◌+◌, ◌<◌, ◌≤◌, ◌++◌, ◌↔◌, length, IsTrue, IfOk, IsErrOf};
+ghost use Rattle.std.specs.Result.{result_ok};
 ghost use Rattle.std.specs.Bool.{OnTrue, OnFalse};
-ghost use Rattle.ppp_packet.specs.PacketOf.{PacketOf, HasBadLength, laid_packet};
+ghost use Rattle.ppp_packet.specs.PacketOf.{PacketOf, HasBadLength, laid_packet, packet_in};
 ghost use Rattle.ppp_packet.specs.declared.packet.Packet.{Packet};
 
 use crate::body::Body;
@@ -24,6 +25,7 @@ impl Packet {
     pub fn read(bytes: &[u8]) -> Result<Packet, PacketFault>
         ensures ok { IfOk result (λ packet. PacketOf bytes.now packet) }
         ensures alone { (packet : Packet) → PacketOf bytes.now packet → result ≡ Ok packet }
+        ensures function { result_ok result ≡ packet_in bytes.now }
         ensures short { IsErrOf result PacketFault.Short ↔ (length bytes.now < 4) }
         ensures bad_length { IsErrOf result PacketFault.BadLength
             ↔ ((4 ≤ length bytes.now) × HasBadLength bytes.now) }
@@ -50,16 +52,26 @@ impl Packet {
         ensures written { OnTrue result (out.new ≡ out.old ++ laid_packet self.now) }
         ensures unchanged { OnFalse result (out.new ≡ out.old) }
     {
-        let data = self.body.as_slice();
-        let size = data.len() + 4;
-        if MOST_FRAME - out.len() < size {
+        let octets = self.to_frame();
+        if MOST_FRAME - out.len() < octets.len() {
             return false;
         }
+        out.append(octets.as_slice());
+        true
+    }
+
+    /// The packet's octets.
+    pub fn to_frame(&self) -> Frame
+        ensures { result ≡ laid_packet self.now }
+    {
+        let data = self.body.as_slice();
+        let size = data.len() + 4;
+        let mut frame = Frame::new();
         let mut header = [self.code, self.id, 0, 0];
         BigEndian::write_u16(&mut header[2..], size as u16);
-        out.append(&header);
-        out.append(data);
-        true
+        frame.append(&header);
+        frame.append(data);
+        frame
     }
 
     /// The same packet again. It takes no memory.

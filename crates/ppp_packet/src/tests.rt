@@ -55,6 +55,7 @@ fn packets_are_read_back(rt: HostRuntime) -> Result<(), Fail> {
     let mut out = Frame::new();
     assert!(rt; packet.write(&mut out));
     assert_eq!(rt; out.as_slice(), [1, 2, 0, 10, 2, 6, 0, 0, 0, 0].as_slice());
+    assert!(rt; packet.to_frame() == out);
     out.append(&[0xff; 3]);
     laws::packet_back(&packet, &out.as_slice()[10..]);
     assert!(rt; Packet::read(out.as_slice())? == packet.copy());
@@ -117,11 +118,11 @@ fn options_one_by_one(rt: HostRuntime) -> Result<(), Fail> {
         same.to_body().as_slice(),
         [5, 6, 1, 2, 3, 4, 7, 2].as_slice()
     );
-    let mut walk = same.walk();
-    let first = walk.next().expect(&rt, "it is there");
+    let mut items = same.iter();
+    let first = items.next().expect(&rt, "it is there");
     assert_eq!(rt; (first.kind, first.body), (5, [1, 2, 3, 4].as_slice()));
-    assert_eq!(rt; walk.next().expect(&rt, "it is there").kind, 7);
-    assert!(rt; walk.next().is_none());
+    assert_eq!(rt; items.next().expect(&rt, "it is there").kind, 7);
+    assert!(rt; items.next().is_none());
     let out = AuthOut {
         packet: Some(Packet::default()),
         outcome: AuthOutcome::Passed(Name::new(), 1),

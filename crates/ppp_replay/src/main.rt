@@ -25,7 +25,7 @@ fn main(rt: HostRuntime) -> ExitCode {
     ExitCode::from(run::replay_run(rt.alloc(), &words, &mut input, &mut output))
 }
 
-/// The words of the command line, behind the program's name.
+// The words of the command line, behind the program's name.
 fn words_of(rt: &(impl Env + AllocGlobal)) -> io::Result<Vec<String>> {
     let mut words = Vec::new(rt.alloc());
     for word in env::args(rt)?.skip(1) {

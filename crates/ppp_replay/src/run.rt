@@ -31,14 +31,14 @@ pub enum Ending {
     SinkFailed,
 }
 
-/// Whether the first line begins with `full`.
+// Whether the first line begins with `full`.
 fn begins_full(octets: &[u8]) -> bool
     ensures { IsTrue result ↔ BeginsFull octets.now }
 {
     octets.starts_with(b"full")
 }
 
-/// Writes the line of a fault, as far as the sink takes it.
+// Writes the line of a fault, as far as the sink takes it.
 fn refuse<O: Sink>(output: &mut O, bad: BadTrace) -> Ending
     ensures ending { result ≡ Ending.NoTrace }
     ensures line { WritesFault (O.state output.old) (O.state output.new) bad }
@@ -47,7 +47,7 @@ fn refuse<O: Sink>(output: &mut O, bad: BadTrace) -> Ending
     Ending::NoTrace
 }
 
-/// Reads a trace, and writes its text.
+// Reads a trace, and writes its text.
 fn replay<I: Source, O: Sink>(alloc: Global, input: &mut I, output: &mut O) -> Ending
     ensures bounded { (I.state input.new).taken ≤ (I.state input.old).taken + MOST_OCTETS + 1 }
     ensures ends { Ends result (I.state input.old) (I.state input.new) (O.state output.old) (O.state output.new) }

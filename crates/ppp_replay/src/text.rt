@@ -13,7 +13,7 @@ use ppp_hooks::HookStart;
 use ppp_outside::{Sink, TextWriter};
 use ppp_trace::BareStep;
 
-/// Puts the acts, joined by commas.
+// Puts the acts, joined by commas.
 fn put_acts<O: Sink>(writer: &mut TextWriter, output: &mut O, acts: &[Act])
     ensures { Puts writer.old writer.new (O.state output.old) (O.state output.new) (acts_text acts.now) }
 {
@@ -27,7 +27,7 @@ fn put_acts<O: Sink>(writer: &mut TextWriter, output: &mut O, acts: &[Act])
     }
 }
 
-/// Does a step, and puts what it did.
+// Does a step, and puts what it did.
 fn put_told<O: Sink>(writer: &mut TextWriter, output: &mut O, player: &mut Player, step: BareStep)
     requires { player.old.marks + 3 ≤ MOST_MARKS }
     ensures put { Puts writer.old writer.new (O.state output.old) (O.state output.new) (told_text player.old.run step) }
@@ -49,14 +49,14 @@ fn put_told<O: Sink>(writer: &mut TextWriter, output: &mut O, player: &mut Playe
     }
 }
 
-/// The words of a start's direction.
+// The words of a start's direction.
 fn start_word(up: bool) -> &'static [u8]
     ensures { result.now ≡ (if up then codes " ip-up " else codes " ip-down ") }
 {
     if up { b" ip-up " } else { b" ip-down " }
 }
 
-/// Puts the script that was started, if one was.
+// Puts the script that was started, if one was.
 fn put_start<O: Sink>(writer: &mut TextWriter, output: &mut O, start: Option<HookStart>)
     ensures { Puts writer.old writer.new (O.state output.old) (O.state output.new) (start_text (option_map (λ (s : HookStart). (s.up, s.opening)) start)) }
 {
@@ -67,7 +67,7 @@ fn put_start<O: Sink>(writer: &mut TextWriter, output: &mut O, start: Option<Hoo
     writer.put_number(output, u64::from(start.opening));
 }
 
-/// Puts the job that runs, or that none does.
+// Puts the job that runs, or that none does.
 fn put_running<O: Sink>(writer: &mut TextWriter, output: &mut O, running: Option<u32>)
     ensures { Puts writer.old writer.new (O.state output.old) (O.state output.new) (running_text running) }
 {
@@ -80,7 +80,7 @@ fn put_running<O: Sink>(writer: &mut TextWriter, output: &mut O, running: Option
     }
 }
 
-/// Does a step, and puts its line.
+// Does a step, and puts its line.
 fn put_line<O: Sink>(
     writer: &mut TextWriter,
     output: &mut O,

@@ -1,5 +1,5 @@
--- Deadlines, among them the restart timers (RFC 1661, section 4.6), and which of them is due first.
-use Rattle.std.specs.Prelude.{ℕ, nat_le, Bool, true, false, Option, Some, None, List, [], ◌∷◌, find}
+-- Deadlines, among them the restart timers (RFC 1661, section 4.6), and which of them are due.
+use Rattle.std.specs.Prelude.{ℕ, nat_le, Bool, false, Option, Some, None, List, [], ◌∷◌, filter}
 use Rattle.ppp_timer.specs.declared.slot.Slot.{Slot}
 use Rattle.ppp_timer.specs.declared.slot.Slot.TheVariants.{LcpRestart, AuthRestart, AuthEnd, Echo, Hold, IpcpRestart, Idle, Connect}
 
@@ -57,6 +57,6 @@ has_come now (Some moment) = nat_le moment now
 abbrev pub slots : List Slot
 slots = LcpRestart ∷ AuthRestart ∷ AuthEnd ∷ Echo ∷ Hold ∷ IpcpRestart ∷ Idle ∷ Connect ∷ []
 
--- the first slot that is due
-abbrev pub first_due : Moments → ℕ → Option Slot
-first_due held now = find (λ slot. has_come now (moment_of held slot)) slots
+-- the slots that are due, in this order
+abbrev pub due_slots : Moments → ℕ → List Slot
+due_slots held now = filter (λ slot. has_come now (moment_of held slot)) slots

@@ -1,20 +1,9 @@
-ghost use Rattle.std.specs.Prelude.{◌≡◌, ◌≢◌, Some, None};
-ghost use Rattle.ppp_timer.specs.Due.{Moments, no_moments, moment_of, with_moment, has_come, first_due};
+ghost use Rattle.std.specs.Prelude.{◌≡◌, ◌≢◌, ◌↔◌, Some, None, IsTrue, Contains, find, slice_get};
+ghost use Rattle.ppp_timer.specs.Due.{Moments, no_moments, moment_of, with_moment, has_come, slots, due_slots};
 ghost use Rattle.ppp_timer.specs.declared.slot.Slot.{Slot};
 
 use crate::slot::Slot;
 use std::marker::Model;
-
-const ORDER: [Slot; 8] = [
-    Slot::LcpRestart,
-    Slot::AuthRestart,
-    Slot::AuthEnd,
-    Slot::Echo,
-    Slot::Hold,
-    Slot::IpcpRestart,
-    Slot::Idle,
-    Slot::Connect,
-];
 
 /// A moment for each slot, or none, in milliseconds. Contracts see it as these moments.
 #[derive(Clone, Copy, Debug, PartialEq, Eq)]
@@ -57,6 +46,16 @@ impl Model for Deadlines {
     } };
 }
 
+/// Whether a moment, in milliseconds, is at or before `now`. None has not come.
+pub fn has_come(moment: Option<u64>, now: u64) -> bool
+    ensures { result ≡ has_come now moment }
+{
+    match moment {
+        Some(moment) => moment <= now,
+        None => false,
+    }
+}
+
 impl Deadlines {
     /// No moment for any slot.
     pub fn new() -> Deadlines
@@ -95,27 +94,31 @@ impl Deadlines {
 
     /// The first slot, in the order of [`Slot`], whose moment is at or before `now`. None where there is none.
     pub fn due(&self, now: u64) -> Option<Slot>
-        ensures { result ≡ first_due self.now now }
+        ensures { result ≡ slice_get (due_slots self.now now) 0 }
     {
-        ORDER.iter().copied().find(|slot| self.has_come(*slot, now))
+        self.find_due(now)
     }
 
-    fn put(&mut self, slot: Slot, moment: Option<u64>)
-        ensures now { self.new ≡ with_moment self.old slot moment }
+    // The first slot whose moment has come.
+    fn find_due(&self, now: u64) -> Option<Slot>
+        ensures { result ≡ find (λ slot. has_come now (moment_of self.now slot)) slots }
     {
-        match slot {
-            Slot::LcpRestart => self.lcp_restart = moment,
-            Slot::AuthRestart => self.auth_restart = moment,
-            Slot::AuthEnd => self.auth_end = moment,
-            Slot::Echo => self.echo = moment,
-            Slot::Hold => self.hold = moment,
-            Slot::IpcpRestart => self.ipcp_restart = moment,
-            Slot::Idle => self.idle = moment,
-            Slot::Connect => self.connect = moment,
-        }
+        Slot::ALL
+            .iter()
+            .copied()
+            .find(|slot| self.is_due(*slot, now))
     }
 
-    fn moment(&self, slot: Slot) -> Option<u64>
+    /// Whether a slot's moment is at or before `now`.
+    pub fn is_due(&self, slot: Slot, now: u64) -> bool
+        ensures value { result ≡ has_come now (moment_of self.now slot) }
+        ensures among { IsTrue result ↔ Contains (due_slots self.now now) slot }
+    {
+        has_come(self.moment(slot), now)
+    }
+
+    /// The moment of a slot, in milliseconds, where it has one.
+    pub fn moment(&self, slot: Slot) -> Option<u64>
         ensures { result ≡ moment_of self.now slot }
     {
         match slot {
@@ -130,12 +133,19 @@ impl Deadlines {
         }
     }
 
-    fn has_come(&self, slot: Slot, now: u64) -> bool
-        ensures { result ≡ has_come now (moment_of self.now slot) }
+    // Leaves a slot with this moment.
+    fn put(&mut self, slot: Slot, moment: Option<u64>)
+        ensures now { self.new ≡ with_moment self.old slot moment }
     {
-        match self.moment(slot) {
-            Some(moment) => moment <= now,
-            None => false,
+        match slot {
+            Slot::LcpRestart => self.lcp_restart = moment,
+            Slot::AuthRestart => self.auth_restart = moment,
+            Slot::AuthEnd => self.auth_end = moment,
+            Slot::Echo => self.echo = moment,
+            Slot::Hold => self.hold = moment,
+            Slot::IpcpRestart => self.ipcp_restart = moment,
+            Slot::Idle => self.idle = moment,
+            Slot::Connect => self.connect = moment,
         }
     }
 }

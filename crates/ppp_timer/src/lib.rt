@@ -6,5 +6,5 @@ mod slot;
 #[cfg(test)]
 mod tests;
 
-pub use deadlines::Deadlines;
+pub use deadlines::{Deadlines, has_come};
 pub use slot::Slot;

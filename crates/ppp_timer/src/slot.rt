@@ -18,3 +18,17 @@ pub enum Slot {
     /// The connection has lasted as long as it may.
     Connect,
 }
+
+impl Slot {
+    /// Each slot, in the order in which those that are due together are treated.
+    pub const ALL: [Slot; 8] = [
+        Slot::LcpRestart,
+        Slot::AuthRestart,
+        Slot::AuthEnd,
+        Slot::Echo,
+        Slot::Hold,
+        Slot::IpcpRestart,
+        Slot::Idle,
+        Slot::Connect,
+    ];
+}

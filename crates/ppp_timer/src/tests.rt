@@ -19,4 +19,13 @@ fn first_in_order(rt: HostRuntime) {
     assert!(rt; deadlines.due(3000) == Some(Slot::Hold));
     deadlines.set(Slot::Hold, 3001);
     assert!(rt; deadlines.due(3000) == Some(Slot::Connect));
+    for (slot, is_due) in [
+        (Slot::Connect, true),
+        (Slot::Hold, false),
+        (Slot::Echo, false),
+    ] {
+        assert!(rt; deadlines.is_due(slot, 3000) == is_due, "at {slot:?}");
+    }
+    assert_eq!(rt; deadlines.moment(Slot::Hold), Some(3001));
+    assert!(rt; has_come(Some(5), 5) && !has_come(Some(5), 4) && !has_come(None, 5));
 }

@@ -1,3 +1,4 @@
+pub mod NumberLemmas
 pub mod LinesLemmas
 pub mod OnceLemmas
 pub mod StepLemmas

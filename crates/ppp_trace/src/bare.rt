@@ -21,14 +21,14 @@ use ppp_fsm::FsmEvent;
 use ppp_outside::ScriptEnd;
 use std::alloc::Global;
 
-/// The event that a line names.
+// The event that a line names.
 fn event(line: &[u8]) -> Option<FsmEvent>
     ensures { result ≡ find (λ e. bytes_eq (word_of e) line.now) EVENTS }
 {
     EVENTS.iter().copied().find(|e| word(*e) == line)
 }
 
-/// How a script ended, as a step has it.
+// How a script ended, as a step has it.
 fn answer(text: &[u8]) -> Option<ScriptEnd>
     ensures { MatchOption result ((a : ScriptEnd) → IsAnswer a → text.now ≢ word_of_answer a) (λ a. text.now ≡ word_of_answer a) }
 {
@@ -46,7 +46,7 @@ fn answer(text: &[u8]) -> Option<ScriptEnd>
     Some(ScriptEnd::Exit(status as u8))
 }
 
-/// The step of a line that tells a script's end.
+// The step of a line that tells a script's end.
 fn end_step(line: &[u8]) -> Option<BareStep>
     ensures { MatchOption result ((job : ℕ) (a : ScriptEnd) → ¬ Spells line.now (End job a)) (λ step. Spells line.now step) }
 {
@@ -64,7 +64,7 @@ fn end_step(line: &[u8]) -> Option<BareStep>
     Some(BareStep::End { job, answer })
 }
 
-/// The step that a line is.
+// The step that a line is.
 fn step(line: &[u8]) -> Option<BareStep>
     ensures { MatchOption result (IsNoStep line.now) (λ step. Spells line.now step) }
 {
@@ -74,7 +74,7 @@ fn step(line: &[u8]) -> Option<BareStep>
     }
 }
 
-/// The steps that the lines behind the header are, where each is one and they aren't too many.
+// The steps that the lines behind the header are, where each is one and they aren't too many.
 fn steps(alloc: Global, text: &[u8]) -> Result<Vec<BareStep>, TraceFault>
     ensures { (octets : List ℕ) → lines_of octets ≡ codes "bare" ∷ lines_of text.now
         → MatchResult result (λ steps. IsBareTrace octets steps.items) (λ fault. Tells octets fault) }
@@ -99,7 +99,7 @@ fn steps(alloc: Global, text: &[u8]) -> Result<Vec<BareStep>, TraceFault>
     Ok(steps)
 }
 
-/// A fault of this line.
+// A fault of this line.
 fn bad(line: u32, kind: FaultKind) -> TraceFault
     ensures { result ≡ Bad (record { line = line; kind = kind }) }
 {

@@ -46,7 +46,7 @@ pub enum TraceFault {
     NoMemory(NoMemory),
 }
 
-/// The word of a kind.
+// The word of a kind.
 fn kind_word(kind: FaultKind) -> &'static [u8]
     ensures { result.now ≡ word_of_kind kind }
 {

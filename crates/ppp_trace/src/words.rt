@@ -1,9 +1,8 @@
 ghost use Rattle.std.specs.Prelude.{◌≡◌, ◌≢◌, ℕ, ◌<◌, ◌^◌, MatchOption, decimal};
 ghost use Rattle.ppp_trace.specs.Words.{word_of};
 
-use itoa::Buffer;
+use ppp_base::{LeadingZeros, read_number};
 use ppp_fsm::FsmEvent;
-use std::str;
 
 /// The word of an event.
 #[tactic(auto, unfolding(crate::specs::Words::word_of))]
@@ -33,15 +32,9 @@ pub fn word(event: FsmEvent) -> &'static [u8]
 pub fn number(digits: &[u8]) -> Option<u32>
     ensures { MatchOption result ((n : ℕ) → n < 2 ^ 32 → digits.now ≢ decimal n) (λ n. (n < 2 ^ 32) × (digits.now ≡ decimal n)) }
 {
-    let Ok(text) = str::from_utf8(digits) else {
-        return None;
-    };
-    let Ok(number) = text.parse::<u32>() else {
-        return None;
-    };
-    let mut buffer = Buffer::new();
-    if buffer.format(number) != text {
-        return None;
+    let most = u64::from(u32::MAX);
+    match read_number(digits, LeadingZeros::Refused, 0, most) {
+        Some(number) => Some(number as u32),
+        None => None,
     }
-    Some(number)
 }

@@ -7,7 +7,7 @@
 
 mod backslash;
 mod fault;
-mod laws;
+pub mod laws;
 mod place;
 mod reader;
 mod splitting;
@@ -15,7 +15,6 @@ mod word;
 
 pub use backslash::Backslash;
 pub use fault::WordsFault;
-pub use laws::one_reading;
 pub use splitting::words;
 pub use word::Word;
 

@@ -22,21 +22,21 @@ pub struct Reader {
     pub words: Vec<Word>,
 }
 
-/// Whether the octet is white space: space, tab, newline, vertical tab, form feed or return.
+// Whether the octet is white space: space, tab, newline, vertical tab, form feed or return.
 fn is_white(octet: u8) -> bool
     ensures { result ≡ is_white octet }
 {
     octet == b' ' || (9 <= octet && octet <= 13)
 }
 
-/// Whether the octet is one of the two quotes.
+// Whether the octet is one of the two quotes.
 fn is_quote(octet: u8) -> bool
     ensures { result ≡ is_quote octet }
 {
     octet == b'\'' || octet == b'"'
 }
 
-/// The word that has begun, or one that begins on this line.
+// The word that has begun, or one that begins on this line.
 fn begin(alloc: Global, word: Option<Word>, line: usize) -> Word
     ensures { result ≡ begun word line }
 {
@@ -46,7 +46,7 @@ fn begin(alloc: Global, word: Option<Word>, line: usize) -> Word
     }
 }
 
-/// The word that has begun, or one that begins on this line, with one more octet.
+// The word that has begun, or one that begins on this line, with one more octet.
 fn push(alloc: Global, word: Option<Word>, line: usize, octet: u8) -> Result<Option<Word>, NoMemory>
     ensures { IfOk result (λ longer. longer ≡ pushed word line (octet ∷ [])) }
 {
@@ -55,7 +55,7 @@ fn push(alloc: Global, word: Option<Word>, line: usize, octet: u8) -> Result<Opt
     Ok(Some(word))
 }
 
-/// The word behind a backslash: it begins on this line if the backslash stays.
+// The word behind a backslash: it begins on this line if the backslash stays.
 fn behind(
     alloc: Global,
     backslash: Backslash,
@@ -86,7 +86,7 @@ impl Reader {
         }
     }
 
-    /// Takes an octet outside quotes and comments.
+    // Takes an octet outside quotes and comments.
     fn take_outside(&mut self, octet: u8) -> Result<(), NoMemory>
         ensures state { OnOk result (state_of self.new ≡ outside self.old.backslash (state_of self.old) octet) }
         ensures backslash { OnOk result (self.new.backslash ≡ self.old.backslash) }
@@ -110,7 +110,7 @@ impl Reader {
         Ok(())
     }
 
-    /// Takes an octet behind a quote, which began on this line.
+    // Takes an octet behind a quote, which began on this line.
     fn take_in_quote(&mut self, quote: u8, begun: usize, octet: u8) -> Result<(), NoMemory>
         ensures state { OnOk result (state_of self.new ≡ in_quote self.old.backslash quote begun (state_of self.old) octet) }
         ensures backslash { OnOk result (self.new.backslash ≡ self.old.backslash) }
@@ -129,7 +129,7 @@ impl Reader {
         Ok(())
     }
 
-    /// Takes an octet behind a backslash.
+    // Takes an octet behind a backslash.
     fn take_escaped(&mut self, octet: u8, place: Place) -> Result<(), NoMemory>
         ensures state { OnOk result (state_of self.new
             ≡ record (state_of self.old) { place = place; word = pushed self.old.word self.old.line (octet ∷ []) }) }
@@ -141,7 +141,7 @@ impl Reader {
         Ok(())
     }
 
-    /// Takes an octet in its place.
+    // Takes an octet in its place.
     fn take_placed(&mut self, octet: u8) -> Result<(), NoMemory>
         ensures state { OnOk result (state_of self.new ≡ placed self.old.backslash self.old.place (state_of self.old) octet) }
         ensures backslash { OnOk result (self.new.backslash ≡ self.old.backslash) }

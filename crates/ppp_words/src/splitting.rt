@@ -10,7 +10,7 @@ use crate::reader::Reader;
 use crate::word::Word;
 use std::alloc::Global;
 
-/// The words, one octet after another.
+// The words, one octet after another.
 #[tactic(auto, unfolding(crate::specs::Steps::words_of))]
 fn read(alloc: Global, text: &[u8], backslash: Backslash) -> Result<Vec<Word>, WordsFault>
     ensures { Gives result (words_of backslash text.now) }

@@ -20,7 +20,7 @@ impl Model for Word {
 }
 
 impl Word {
-    /// A word that begins on this line.
+    // A word that begins on this line.
     pub(crate) fn new(alloc: Global, line: usize) -> Word
         ensures { result ≡ record { octets = []; line = line } }
     {
@@ -30,7 +30,7 @@ impl Word {
         }
     }
 
-    /// Adds an octet at the end.
+    // Adds an octet at the end.
     pub(crate) fn push(&mut self, octet: u8) -> Result<(), NoMemory>
         ensures { OnOk result (self.new ≡ record { octets = self.old.octets ++ octet ∷ []; line = self.old.line }) }
     {

@@ -8,10 +8,10 @@ pub judging-init : goal.judging-init
 judging-init g c =
     let judge = g.J.Judge.judgement c.args.judge.now in
     let items = c.args.request.now in
-    let within : length (laid items) ≤ 1504 = subst (λ (x : List Item). length (laid x) ≤ 1504) c.walk-walk.ensures.items c.walk-walk.ensures.within in
+    let within : length (laid items) ≤ 1504 = subst (λ (x : List Item). length (laid x) ≤ 1504) c.iter-walk.ensures.items c.iter-walk.ensures.within in
     let start = sorts_none judge items within in
-    let begun = subst (λ (x : List Item). SortsOut judge items _ x) (sym c.walk-walk.ensures.items) start in
-    subst (λ s. SortsOut judge items s c.walk-walk.result) (sym c.new-sorting.ensures) begun
+    let begun = subst (λ (x : List Item). SortsOut judge items _ x) (sym c.iter-walk.ensures.items) start in
+    subst (λ s. SortsOut judge items s c.iter-walk.result) (sym c.new-sorting.ensures) begun
 
 pub take-requires-clause-rejected : goal.take-requires-clause-rejected
 take-requires-clause-rejected g c =

@@ -1,20 +1,13 @@
-use Rattle.std.proofs.Common.{◌≡◌, ◌∙◌, decimal, sym, subst, rules, arith, IsUtf8}
-use Rattle.std.proofs.lemmas.Fmt.{parse-decimal, IsAscii-decimal}
-use Rattle.std.proofs.lemmas.Str.{IsUtf8-from_ascii}
+use Rattle.std.proofs.Common.{◌∙◌, Some, None, ap, sym}
+use Rattle.ppp_base.specs.Numbers.{number_of}
+use Rattle.ppp_base.specs.declared.numbers.LeadingZeros.TheVariants.{Refused}
+use Rattle.ppp_trace.proofs.NumberLemmas.{read_cases}
 use Rattle.ppp_trace.proofs.words.number.Goals as goal
 
-pub returns-in_default : goal.returns-in_default
-returns-in_default c =
-    λ n small e. c.in_default.ensures.cases.0 (subst IsUtf8 (sym e) (IsUtf8-from_ascii (decimal n) (IsAscii-decimal n (omega arith))))
+pub returns-in-None : goal.returns-in-None
+returns-in-None c =
+    read_cases c.args.digits.now None (sym c.in-None.is ∙ c.read_number.ensures.value ∙ ap (λ most. number_of Refused 0 most c.args.digits.now) c.from-most.ensures)
 
-pub returns-in_default-parse : goal.returns-in_default-parse
-returns-in_default-parse c =
-    λ n small e. cc (parse-decimal 32 n _ _ small (omega arith) (c.in-Ok.ensures.cases.0 ∙ e) c.parse.ensures.value.0)
-
-pub returns-then-ne : goal.returns-then-ne
-returns-then-ne c =
-    λ n small e.
-    let at : c.in-Ok.text.now ≡ decimal n = c.in-Ok.ensures.cases.0 ∙ e in
-    let read = parse-decimal 32 n _ _ small (omega arith) at c.parse.ensures.value.0 in
-    let text : c.format.result.now ≡ c.in-Ok.text.now = cc at in
-    search rules
+pub returns-in-Some : goal.returns-in-Some
+returns-in-Some c =
+    read_cases c.args.digits.now (Some c.in-Some.number) (sym c.in-Some.is ∙ c.read_number.ensures.value ∙ ap (λ most. number_of Refused 0 most c.args.digits.now) c.from-most.ensures)

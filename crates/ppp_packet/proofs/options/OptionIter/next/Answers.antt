@@ -2,7 +2,7 @@
 use Rattle.std.proofs.Common.{◌∙◌, arith, sym}
 use Rattle.ppp_packet.specs.OptionsOf.{item}
 use Rattle.ppp_packet.proofs.Laying.{walked-laid, walked-items, no_fault, items_of-none}
-use Rattle.ppp_packet.proofs.options.Walk.next.Goals as goal
+use Rattle.ppp_packet.proofs.options.OptionIter.next.Goals as goal
 
 pub returns-then-self-eq0-clause-item : goal.returns-then-self-eq0-clause-item
 returns-then-self-eq0-clause-item c = sym c.self.view_is ∙ items_of-none c.self.inside.left.now (omega arith)

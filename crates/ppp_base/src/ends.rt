@@ -1,0 +1,33 @@
+ghost use Rattle.std.specs.Prelude.{◌≡◌, ℕ, [], ◌++◌, List, IfNone, option_to_list};
+ghost use Rattle.ppp_base.specs.Stepped.{IfStale};
+
+use crate::link_id::LinkId;
+use crate::posts::{Post, UpPost};
+use crate::stepped::Stepped;
+
+/// A link as the table sees it: the end of the posts from it and to it.
+pub trait Ends {
+    ghost use Rattle.ppp_base.specs.declared.posts.UpPost.{UpPost};
+
+    /// Its number.
+    ghost number: { Self → ℕ };
+
+    /// The posts to the table that wait, the oldest first.
+    ghost waiting: { Self → List UpPost };
+
+    /// Its number.
+    fn id(&self) -> LinkId
+        ensures { result ≡ number self.now };
+
+    /// Takes the oldest post to the table that waits.
+    fn take_up(&mut self) -> Option<UpPost>
+        ensures first { waiting self.old ≡ option_to_list result ++ waiting self.new }
+        ensures none { IfNone result (waiting self.old ≡ []) }
+        ensures same { number self.new ≡ number self.old };
+
+    /// Hands it a post of the table. One that comes back is of another stay, and has changed nothing.
+    fn from_table(&mut self, post: Post) -> Stepped<Post>
+        ensures back { IfStale result (λ back. back ≡ post) }
+        ensures unchanged { IfStale result (λ back. self.new ≡ self.old) }
+        ensures same { number self.new ≡ number self.old };
+}
