@@ -1,6 +1,6 @@
 -- What a script sends and how it ends, from its items and from its steps.
 use Rattle.std.proofs.Common.{ℕ, ◌≡◌, ◌+◌, Bool, true, false, cond, Option, None, Some, List, [], ◌∷◌, ◌++◌, length, refl, sym, ap, ◌∙◌, append_assoc, append-nil}
-use Rattle.ppp_chat.specs.ChatOf.{Course, Point, Reach, Behind, Waits, Ends, Run, done_at, ends, from_reach, and_then, point_at, at_next as run_next, sent_at, send_octets, behind_ending, wait_for, send_part, send_all, await_text, expect_any, run_items, end_at, outcome_at, course_at, ChatOf}
+use Rattle.ppp_chat.specs.ChatOf.{Course, Point, Reach, Behind, Waits, Ends, Run, done_at, ends, from_reach, and_then, point_at, sent_at, send_octets, behind_ending, wait_for, send_part, send_all, await_text, expect_any, run_items, end_at, outcome_at, course_at, ChatOf}
 use Rattle.ppp_chat.specs.Course.{going, ended, sending, is_last_part, Following, at_next, at_ending, awaiting, delaying, course}
 use Rattle.ppp_chat.specs.Ending.{Awaited, first_from, ending_at, delay_end_at}
 use Rattle.ppp_chat.specs.Event.{Event}
@@ -135,16 +135,16 @@ expect-course text (other ∷ others) steps s p =
     (λ (late : Point). and_then (send_all other.send late) (expect_any s other.text others)) p
     (λ q. skips (other ∷ others) steps s q.now q.has_sent q.later)
     (λ now more.
-        let q : Point = record { now = now; has_sent = false; later = more } in
-        let behind : List Step = Expect other.text ∷ (flat_instead others ++ steps) in
-        ap (λ (l : List Step). cond (is_last_part l) (ended TimedOut) (course l false s now false more))
-        (append_assoc (flat_send other.send) (Expect other.text ∷ flat_instead others) steps)
-        ∙ ap (λ (b : Bool). cond b (ended TimedOut) (course (flat_send other.send ++ behind) false s now false more))
-        (is-not-last other.send other.text (flat_instead others ++ steps))
-        ∙ send-course other.send behind s q
-        ∙ onto-same (send_all other.send q) (from_point behind s) (λ (r : Point). onto (expect_any s other.text others r) (from_point steps s))
-        (expect-course other.text others steps s)
-        ∙ sym (onto-then (send_all other.send q) (expect_any s other.text others) (from_point steps s)))
+    let q : Point = record { now = now; has_sent = false; later = more } in
+    let behind : List Step = Expect other.text ∷ (flat_instead others ++ steps) in
+    ap (λ (l : List Step). cond (is_last_part l) (ended TimedOut) (course l false s now false more))
+    (append_assoc (flat_send other.send) (Expect other.text ∷ flat_instead others) steps)
+    ∙ ap (λ (b : Bool). cond b (ended TimedOut) (course (flat_send other.send ++ behind) false s now false more))
+    (is-not-last other.send other.text (flat_instead others ++ steps))
+    ∙ send-course other.send behind s q
+    ∙ onto-same (send_all other.send q) (from_point behind s) (λ (r : Point). onto (expect_any s other.text others r) (from_point steps s))
+    (expect-course other.text others steps s)
+    ∙ sym (onto-then (send_all other.send q) (expect_any s other.text others) (from_point steps s)))
 
 pair-course : (expected : Expected) (send : List SendPart) (steps : List Step) (s : Settings) (p : Point)
     → from_point ((flat_expect expected ++ flat_send send) ++ steps) s p
@@ -178,8 +178,8 @@ items-course timeout_s before (Pair expected send ∷ items) p =
     pair-course expected send (flat items) s p
     ∙ onto-same first (λ (met : Point). onto (send_all send met) (from_point (flat items) s)) (λ (met : Point). onto (more met) end)
     (λ met.
-        onto-same (send_all send met) (from_point (flat items) s) (λ (q : Point). onto (run_items timeout_s before items q) end) (items-course timeout_s before items)
-        ∙ sym (onto-then (send_all send met) (run_items timeout_s before items) end))
+    onto-same (send_all send met) (from_point (flat items) s) (λ (q : Point). onto (run_items timeout_s before items q) end) (items-course timeout_s before items)
+    ∙ sym (onto-then (send_all send met) (run_items timeout_s before items) end))
     ∙ sym (onto-then first more end)
 
 -- a run behind which nothing is left

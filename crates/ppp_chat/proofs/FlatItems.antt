@@ -1,46 +1,46 @@
 -- The steps of items, and the items of steps.
 use Rattle.std.proofs.Common.{ℕ, ◌≡◌, Option, None, Some, List, [], ◌∷◌, ◌++◌, refl, sym, ap, ◌∙◌, append_assoc, append-nil}
 use Rattle.ppp_chat.specs.Script.{SendPart, Octets, Delay, Instead, Expected, Item, Directs, Pair, directives_of}
-use Rattle.ppp_chat.specs.Steps.{flat_part, flat_send, flat_instead, flat_expect, flat_item, flat, Begun, Nothing, Expects, Sends, items_behind, items_of, directives_in}
+use Rattle.ppp_chat.specs.Steps.{flat_part, flat_send, flat_instead, flat_expect, flat_item, flat, Begun, NoItem, Expects, Sends, items_from, items_of, directives_in}
 use Rattle.ppp_chat.specs.declared.directive.Directive.{Directive}
 use Rattle.ppp_chat.specs.declared.step.Step.{Step}
 use Rattle.ppp_chat.specs.declared.step.Step.TheVariants.{Direct, Expect, Met, Send, Pause}
 
 -- a send instead is read
 reads-instead : (text : List ℕ) (others : List Instead) (begun send : List SendPart) (steps : List Step)
-    → items_behind (Expects text others begun) (flat_send send ++ steps) ≡ items_behind (Expects text others (begun ++ send)) steps
-reads-instead text others begun [] steps = ap (λ (l : List SendPart). items_behind (Expects text others l) steps) (sym (append-nil begun))
+    → items_from (Expects text others begun) (flat_send send ++ steps) ≡ items_from (Expects text others (begun ++ send)) steps
+reads-instead text others begun [] steps = ap (λ (l : List SendPart). items_from (Expects text others l) steps) (sym (append-nil begun))
 reads-instead text others begun (Octets octets ∷ send) steps =
     reads-instead text others (begun ++ Octets octets ∷ []) send steps
-    ∙ ap (λ (l : List SendPart). items_behind (Expects text others l) steps) (append_assoc begun (Octets octets ∷ []) send)
+    ∙ ap (λ (l : List SendPart). items_from (Expects text others l) steps) (append_assoc begun (Octets octets ∷ []) send)
 reads-instead text others begun (Delay milliseconds ∷ send) steps =
     reads-instead text others (begun ++ Delay milliseconds ∷ []) send steps
-    ∙ ap (λ (l : List SendPart). items_behind (Expects text others l) steps) (append_assoc begun (Delay milliseconds ∷ []) send)
+    ∙ ap (λ (l : List SendPart). items_from (Expects text others l) steps) (append_assoc begun (Delay milliseconds ∷ []) send)
 
 -- the send of a pair is read
 reads-send : (expected : Expected) (begun send : List SendPart) (steps : List Step)
-    → items_behind (Sends expected begun) (flat_send send ++ steps) ≡ items_behind (Sends expected (begun ++ send)) steps
-reads-send expected begun [] steps = ap (λ (l : List SendPart). items_behind (Sends expected l) steps) (sym (append-nil begun))
+    → items_from (Sends expected begun) (flat_send send ++ steps) ≡ items_from (Sends expected (begun ++ send)) steps
+reads-send expected begun [] steps = ap (λ (l : List SendPart). items_from (Sends expected l) steps) (sym (append-nil begun))
 reads-send expected begun (Octets octets ∷ send) steps =
     reads-send expected (begun ++ Octets octets ∷ []) send steps
-    ∙ ap (λ (l : List SendPart). items_behind (Sends expected l) steps) (append_assoc begun (Octets octets ∷ []) send)
+    ∙ ap (λ (l : List SendPart). items_from (Sends expected l) steps) (append_assoc begun (Octets octets ∷ []) send)
 reads-send expected begun (Delay milliseconds ∷ send) steps =
     reads-send expected (begun ++ Delay milliseconds ∷ []) send steps
-    ∙ ap (λ (l : List SendPart). items_behind (Sends expected l) steps) (append_assoc begun (Delay milliseconds ∷ []) send)
+    ∙ ap (λ (l : List SendPart). items_from (Sends expected l) steps) (append_assoc begun (Delay milliseconds ∷ []) send)
 
 -- what is sent and expected instead is read
 reads-others : (text : List ℕ) (begun others : List Instead) (steps : List Step)
-    → items_behind (Expects text begun []) (flat_instead others ++ steps) ≡ items_behind (Sends (record { text = text; instead = begun ++ others }) []) steps
-reads-others text begun [] steps = ap (λ (l : List Instead). items_behind (Sends (record { text = text; instead = l }) []) steps) (sym (append-nil begun))
+    → items_from (Expects text begun []) (flat_instead others ++ steps) ≡ items_from (Sends (record { text = text; instead = begun ++ others }) []) steps
+reads-others text begun [] steps = ap (λ (l : List Instead). items_from (Sends (record { text = text; instead = l }) []) steps) (sym (append-nil begun))
 reads-others text begun (other ∷ others) steps =
-    ap (λ (l : List Step). items_behind (Expects text begun []) l) (append_assoc (flat_send other.send) (Expect other.text ∷ flat_instead others) steps)
+    ap (λ (l : List Step). items_from (Expects text begun []) l) (append_assoc (flat_send other.send) (Expect other.text ∷ flat_instead others) steps)
     ∙ reads-instead text begun [] other.send (Expect other.text ∷ (flat_instead others ++ steps))
     ∙ reads-others text (begun ++ other ∷ []) others steps
-    ∙ ap (λ (l : List Instead). items_behind (Sends (record { text = text; instead = l }) []) steps) (append_assoc begun (other ∷ []) others)
+    ∙ ap (λ (l : List Instead). items_from (Sends (record { text = text; instead = l }) []) steps) (append_assoc begun (other ∷ []) others)
 
 -- a pair that was read is one where the items behind it begin
 ends-pair : (expected : Expected) (send : List SendPart) (items : List Item)
-    → items_behind (Sends expected send) (flat items) ≡ Pair expected send ∷ items_of (flat items)
+    → items_from (Sends expected send) (flat items) ≡ Pair expected send ∷ items_of (flat items)
 ends-pair expected send [] = refl
 ends-pair expected send (Directs directive ∷ items) = refl
 ends-pair expected send (Pair other more ∷ items) = refl
@@ -48,7 +48,7 @@ ends-pair expected send (Pair other more ∷ items) = refl
 reads-pair : (expected : Expected) (send : List SendPart) (items : List Item)
     → items_of (flat (Pair expected send ∷ items)) ≡ Pair expected send ∷ items_of (flat items)
 reads-pair expected send items =
-    ap (λ (l : List Step). items_behind (Expects expected.text [] []) l) (append_assoc (flat_instead expected.instead) (flat_send send) (flat items))
+    ap (λ (l : List Step). items_from (Expects expected.text [] []) l) (append_assoc (flat_instead expected.instead) (flat_send send) (flat items))
     ∙ reads-others expected.text [] expected.instead (flat_send send ++ flat items)
     ∙ reads-send expected [] send (flat items)
     ∙ ends-pair expected send items

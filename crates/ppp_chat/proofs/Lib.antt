@@ -5,7 +5,6 @@ pub mod Sending
 pub mod Places
 pub mod Reading
 pub mod PartsRead
-pub mod Numbers
 pub mod Ended
 pub mod Obeyed
 pub mod FlatItems

@@ -1,5 +1,5 @@
 -- A send, and where a call that has sent stops.
-use Rattle.std.proofs.Common.{ℕ, ◌≡◌, true, false, nat_eq, IfSome, Option, None, Some, List, [], ◌∷◌, length, refl, sym, ◌∙◌, arith}
+use Rattle.std.proofs.Common.{ℕ, ◌≡◌, true, false, nat_eq, IfSome, Option, None, Some, List, [], ◌∷◌, ◌++◌, length, refl, sym, ◌∙◌, arith}
 use Rattle.std.proofs.lemmas.Bool.Decides.{nat_tests}
 use Rattle.ppp_chat.specs.Settings.{Settings}
 use Rattle.ppp_chat.specs.ChatOf.{Course}
@@ -54,3 +54,8 @@ send_sends turn octets left s now later met some has = rw met (sends turn.sent o
 pub stays_where_stopped : (o : Option Stage) (d : Directives) → IfSome o (λ _. d ≡ d)
 stays_where_stopped None d = tt
 stays_where_stopped (Some stage) d = refl
+
+-- behind no octets others stand alone
+pub none_before : (sent octets : List ℕ) → nat_eq (length sent) 0 ≡ true → sent ++ octets ≡ octets
+none_before [] octets none = refl
+none_before (x ∷ sent) octets none = absurd (true_is_not_false (sym none ∙ is_some x sent))

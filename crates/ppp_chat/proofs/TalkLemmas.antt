@@ -8,7 +8,7 @@ use Rattle.ppp_chat.specs.Hearing.{Goes}
 use Rattle.ppp_chat.specs.Script.{ChatScript}
 use Rattle.ppp_chat.specs.Settings.{Settings, settings_after}
 use Rattle.ppp_chat.specs.Steps.{flat}
-use Rattle.ppp_chat.specs.Talk.{Talking, told, behind}
+use Rattle.ppp_chat.specs.Talk.{Talking, told, behind, answer_after}
 use Rattle.ppp_chat.specs.declared.now.ChatEnd.{ChatEnd}
 use Rattle.ppp_chat.specs.declared.now.ChatNow.{ChatNow}
 use Rattle.ppp_chat.specs.declared.stage.Stage.{Stage}
@@ -54,9 +54,9 @@ left_at : (old : Talking) (event : Event) (new : ChatState) (answered : ChatNow)
     → (later : List Event) → rest_of new later ≡ behind event old later
 left_at old event new answered g later =
     sym (
-      ap (λ (c : Course). record (old (event ∷ later)) { sent = drop (length c.sent) (old (event ∷ later)).sent }) (now_sent old event new answered g)
-          ∙ ap (λ (c : Course). record c { sent = drop (length (sent_by answered)) c.sent }) (g.goes later)
-          ∙ ap (λ (octets : List ℕ). record { sent = octets; outcome = (rest_of new later).outcome }) (drop-front (sent_by answered) (rest_of new later).sent)
+    ap (λ (c : Course). record (old (event ∷ later)) { sent = drop (length c.sent) (old (event ∷ later)).sent }) (now_sent old event new answered g)
+    ∙ ap (λ (c : Course). record c { sent = drop (length (sent_by answered)) c.sent }) (g.goes later)
+    ∙ ap (λ (octets : List ℕ). record { sent = octets; outcome = (rest_of new later).outcome }) (drop-front (sent_by answered) (rest_of new later).sent)
     )
 
 -- What a call leaves is what was to come behind it.
@@ -91,3 +91,11 @@ answers_begun script begin new answered g = record {
   sent = ap (λ (c : Course). c.sent) (now_sent (ChatOf script) begin new answered g);
   is = g.is ∙ sym (ap (λ (c : Course). answer (sent_by answered) c.outcome) (now_sent (ChatOf script) begin new answered g));
 }
+
+-- The answer of a call is the one that is listed.
+pub listed : (script : ChatScript) (calls : List Event) (call : Event) (answered : ChatNow) → Answers script calls call answered
+    → answered ≡ answer_after (ChatOf script) calls call
+listed script calls call answered a =
+    let new : drop (length (ChatOf script calls).sent) (ChatOf script (calls ++ call ∷ [])).sent ≡ sent_by answered =
+    ap (λ (octets : List ℕ). drop (length (ChatOf script calls).sent) octets) a.sent ∙ drop-front (ChatOf script calls).sent (sent_by answered) in
+    a.is ∙ sym (ap (λ (octets : List ℕ). answer octets (ChatOf script (calls ++ call ∷ [])).outcome) new)

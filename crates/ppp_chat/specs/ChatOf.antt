@@ -15,7 +15,7 @@ pub record Course : Type 0 where
   pub sent : List ℕ
   pub outcome : Option ChatEnd
 
--- where a script is: the moment of an event, whether octets were sent with it, and the events after it
+-- Where a script is: the moment of an event, whether octets were sent with it, and the events after it. Places are counted from the first of those.
 pub record Point : Type 0 where
   pub now : ℕ
   pub has_sent : Bool
@@ -55,9 +55,9 @@ abbrev pub point_at : List Event → ℕ → Point
 point_at later place = record { now = (event_at later place).at; has_sent = false; later = drop (suc place) later }
 
 -- with the next event
-abbrev pub at_next : List Event → (Point → Run) → Run
-at_next [] run = waits
-at_next (event ∷ later) run = run (record { now = event.at; has_sent = false; later = later })
+abbrev pub with_next : List Event → (Point → Run) → Run
+with_next [] run = waits
+with_next (event ∷ later) run = run (record { now = event.at; has_sent = false; later = later })
 
 abbrev pub sent_at : List ℕ → Point → Run
 sent_at octets p = record { sent = octets; reach = Behind (record p { has_sent = true }) }
@@ -65,7 +65,7 @@ sent_at octets p = record { sent = octets; reach = Behind (record p { has_sent =
 -- Octets are sent with this event, or with the next one, where others were sent with this. No octets are no send.
 abbrev pub send_octets : List ℕ → Point → Run
 send_octets [] p = done_at p
-send_octets (octet ∷ octets) p = if p.has_sent then at_next p.later (sent_at (octet ∷ octets)) else sent_at (octet ∷ octets) p
+send_octets (octet ∷ octets) p = if p.has_sent then with_next p.later (sent_at (octet ∷ octets)) else sent_at (octet ∷ octets) p
 
 -- What follows the first ending, if there is one. `late` is what follows where the time has come.
 abbrev pub behind_ending : Option (ℕ × Ending) → List Event → (Point → Run) → Run
@@ -109,7 +109,7 @@ run_items timeout_s before (Pair expected send ∷ items) p =
 
 -- Behind the last item the script has ended, with the next event where octets were sent with this one.
 abbrev pub end_at : Point → Run
-end_at p = if p.has_sent then at_next p.later (λ (next : Point). ends Done) else ends Done
+end_at p = if p.has_sent then with_next p.later (λ (next : Point). ends Done) else ends Done
 
 abbrev pub outcome_at : Reach → Option ChatEnd
 outcome_at (Behind p) = None

@@ -28,8 +28,11 @@ pub record ChatState : Type 0 where
   pub settings : Settings
   pub window : List ℕ
 
+abbrev pub HasBegun : Stage → Type 0
+HasBegun stage = stage ≡ NotBegun → ⊥
+
 abbrev pub IsBegun : ChatState → Type 0
-IsBegun chat = chat.stage ≡ NotBegun → ⊥
+IsBegun chat = HasBegun chat.stage
 
 -- what follows an expect that is met, and one that is late
 abbrev pub after_found : List Step → Settings → ℕ → List Event → Course

@@ -1,4 +1,4 @@
--- How a script goes on from one of its steps.
+-- What a script sends and how it ends from one of its steps on: the code's own form of `ChatOf`, to which `laws::steps_say_the_same` ties it.
 use Rattle.std.specs.Prelude.{ℕ, ◌+◌, ◌*◌, suc, Bool, true, false, if◌then◌else◌, Option, None, Some, List, [], ◌∷◌, ◌++◌, length, drop, filter, nat_eq, not}
 use Rattle.std.specs.Cmp.Lexicographic.{pointwise}
 use Rattle.ppp_chat.specs.ChatOf.{Course}

@@ -1,4 +1,4 @@
--- What one call does to a conversation that was begun.
+-- What one call does to a conversation that was begun: the code's own form of what follows an ending.
 use Rattle.std.specs.Prelude.{ℕ, ◌≡◌, Option, None, Some, List, [], ◌∷◌, ◌++◌}
 use Rattle.ppp_chat.specs.ChatOf.{Course}
 use Rattle.ppp_chat.specs.Course.{ended, sending}

@@ -1,3 +1,4 @@
+pub use Rattle.ppp_base.specs.Numbers
 pub mod Event
 pub mod Ending
 pub mod Script

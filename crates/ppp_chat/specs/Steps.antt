@@ -37,23 +37,23 @@ flat (item ∷ items) = flat_item item ++ flat items
 -- The items of steps, from left to right: no item has begun; or a string of an expect was read, what is sent instead and expected then
 -- so far, and what was read of the next such send; or an expect was read, and what was read of the send behind it.
 pub data Begun : Type 0 where
-  Nothing : Begun
+  NoItem : Begun
   Expects : List ℕ → List Instead → List SendPart → Begun
   Sends : Expected → List SendPart → Begun
 
 -- the item that has begun, where no step is left or another begins
 abbrev pub done_before : Begun → List Item → List Item
-done_before Nothing items = items
+done_before NoItem items = items
 done_before (Expects text others send) items = items
 done_before (Sends expected send) items = Pair expected send ∷ items
 
 abbrev pub with_sent : SendPart → Begun → Begun
-with_sent part Nothing = Nothing
+with_sent part NoItem = NoItem
 with_sent part (Expects text others send) = Expects text others (send ++ part ∷ [])
 with_sent part (Sends expected send) = Sends expected (send ++ part ∷ [])
 
 abbrev pub with_expect : List ℕ → Begun → Begun
-with_expect next Nothing = Expects next [] []
+with_expect next NoItem = Expects next [] []
 with_expect next (Expects text others send) = Expects text (others ++ record { send = send; text = next } ∷ []) []
 with_expect next (Sends expected send) = Expects next [] []
 
@@ -66,16 +66,16 @@ abbrev pub done_at_expect : Begun → List Item → List Item
 done_at_expect (Sends expected send) items = Pair expected send ∷ items
 done_at_expect other items = items
 
-abbrev pub items_behind : Begun → List Step → List Item
-items_behind begun [] = done_before begun []
-items_behind begun (Direct directive ∷ steps) = done_before begun (Directs directive ∷ items_behind Nothing steps)
-items_behind begun (Expect text ∷ steps) = done_at_expect begun (items_behind (with_expect text begun) steps)
-items_behind begun (Met ∷ steps) = items_behind (with_met begun) steps
-items_behind begun (Send octets ∷ steps) = items_behind (with_sent (Octets octets) begun) steps
-items_behind begun (Pause milliseconds ∷ steps) = items_behind (with_sent (Delay milliseconds) begun) steps
+abbrev pub items_from : Begun → List Step → List Item
+items_from begun [] = done_before begun []
+items_from begun (Direct directive ∷ steps) = done_before begun (Directs directive ∷ items_from NoItem steps)
+items_from begun (Expect text ∷ steps) = done_at_expect begun (items_from (with_expect text begun) steps)
+items_from begun (Met ∷ steps) = items_from (with_met begun) steps
+items_from begun (Send octets ∷ steps) = items_from (with_sent (Octets octets) begun) steps
+items_from begun (Pause milliseconds ∷ steps) = items_from (with_sent (Delay milliseconds) begun) steps
 
 abbrev pub items_of : List Step → List Item
-items_of steps = items_behind Nothing steps
+items_of steps = items_from NoItem steps
 
 -- the directives among steps
 abbrev pub directives_in : List Step → List Directive

@@ -1,4 +1,4 @@
--- How a call goes from step to step.
+-- How a call goes from step to step: the code's own form of what follows at once.
 use Rattle.std.specs.Prelude.{ℕ, ◌≡◌, Bool, true, false, Option, None, Some, List, [], ◌∷◌}
 use Rattle.ppp_chat.specs.ChatOf.{Course}
 use Rattle.ppp_chat.specs.Course.{sending, course}
@@ -9,7 +9,7 @@ use Rattle.ppp_chat.specs.Texts.{kept_settings}
 use Rattle.ppp_chat.specs.declared.directives.Directives.{Directives}
 use Rattle.ppp_chat.specs.declared.now.ChatEnd.TheVariants.{Done}
 use Rattle.ppp_chat.specs.declared.stage.Stage.{Stage}
-use Rattle.ppp_chat.specs.declared.stage.Stage.TheVariants.{NotBegun, Waiting, Over}
+use Rattle.ppp_chat.specs.declared.stage.Stage.TheVariants.{Waiting, Over}
 use Rattle.ppp_chat.specs.declared.step.Step.{Step}
 use Rattle.ppp_chat.specs.declared.walk.Turn.{Turn}
 
@@ -33,7 +33,3 @@ Takes steps step now old new before after (Some stage) =
 abbrev pub stage_at_end : List ℕ → Stage
 stage_at_end [] = Over Done
 stage_at_end (octet ∷ octets) = Waiting
-
--- the script was begun
-abbrev pub IsWait : Stage → Type 0
-IsWait stage = stage ≡ NotBegun → ⊥

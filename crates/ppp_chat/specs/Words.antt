@@ -2,6 +2,8 @@
 use Rattle.std.specs.Prelude.{ℕ, ◌+◌, ◌-◌, ◌*◌, nat_le, nat_eq, ◌==◌, Bool, true, false, ◌&&◌, if◌then◌else◌, Option, None, Some, option_map, Result, Ok, Err, List, [], ◌∷◌, ◌++◌, length, map, slice_get, codes}
 use Rattle.std.specs.Cmp.Lexicographic.{pointwise}
 use Rattle.std.specs.List.{find, slice_split}
+use Rattle.ppp_base.specs.Numbers.{number_of}
+use Rattle.ppp_base.specs.declared.numbers.LeadingZeros.TheVariants.{Lawful}
 use Rattle.ppp_chat.specs.Pieces.{pieces_of, text_of}
 use Rattle.ppp_chat.specs.Script.{SendPart, Octets, Delay, Instead, Expected, Item, Directs, Pair, directives_of}
 use Rattle.ppp_chat.specs.Settings.{aborts_of}
@@ -93,22 +95,9 @@ name_of SetsTimeout = codes "TIMEOUT"
 abbrev pub keyword_of : List ℕ → Option Keyword
 keyword_of word = find (λ (keyword : Keyword). pointwise nat_eq (name_of keyword) word) (SetsAbort ∷ ClearsAbort ∷ SetsTimeout ∷ [])
 
-abbrev pub is_digit : ℕ → Bool
-is_digit octet = nat_le 48 octet && nat_le octet 57
-
--- the decimal number of these octets, behind a number
-abbrev pub decimal_from : ℕ → List ℕ → Option ℕ
-decimal_from number [] = Some number
-decimal_from number (octet ∷ octets) = if is_digit octet then decimal_from (number * 10 + (octet - 48)) octets else None
-
--- from 1 to 65535
-abbrev pub in_range : Option ℕ → Option ℕ
-in_range None = None
-in_range (Some number) = if nat_le 1 number && nat_le number 65535 then Some number else None
-
--- the seconds of TIMEOUT
+-- the seconds of TIMEOUT, from 1 to 65535; zeros may stand before them, up to 10 digits in all
 abbrev pub seconds_of : List ℕ → Option ℕ
-seconds_of word = in_range (decimal_from 0 word)
+seconds_of word = number_of Lawful 1 65535 word
 
 -- The faults of a word are looked for in this order: a bad escape, a bad number, too many abort strings, too long. Words have numbers from 1 on.
 

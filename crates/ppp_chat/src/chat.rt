@@ -113,7 +113,8 @@ impl Chat {
         ensures behind { rest_of self.new ≡ behind (tick_at now) (ChatOf self.new.script) }
         ensures stage { result ≡ answer (sent_by result) (outcome_of self.new.stage) }
     {
-        self.directives = Directives::new(self.script.timeout_s());
+        let directives = Directives::new(self.script.timeout_s());
+        self.directives = directives;
         self.place = 0;
         self.go_on(0, false, now)
     }

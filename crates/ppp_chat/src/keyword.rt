@@ -29,5 +29,8 @@ fn name(keyword: Keyword) -> &'static [u8]
 pub(crate) fn keyword_of(word: &[u8]) -> Option<Keyword>
     ensures { result ≡ keyword_of word.now }
 {
-    KEYWORDS.iter().copied().find(|keyword| name(*keyword) == word)
+    KEYWORDS
+        .iter()
+        .copied()
+        .find(|keyword| name(*keyword) == word)
 }

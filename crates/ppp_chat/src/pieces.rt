@@ -3,8 +3,9 @@ ghost use Rattle.ppp_chat.specs.Pieces.{pieces_behind, pieces_of, unquoted, text
 ghost use Rattle.ppp_chat.specs.Reading.{Spells};
 
 use crate::fault::ScriptFault;
+use crate::octets::MOST_SENT;
 use crate::piece::{Piece, first_piece};
-use crate::text::{MOST_TEXT, Text};
+use crate::text::Text;
 use std::alloc::{AllocError, Global};
 use std::marker::Model;
 
@@ -86,7 +87,7 @@ impl Pieces {
 
     /// Their octets.
     pub fn text(&self, alloc: Global) -> Result<Text, ScriptFault>
-        requires { length (text_of self.now) ≤ MOST_TEXT }
+        requires { length (text_of self.now) ≤ MOST_SENT }
         ensures text { IfOk result (λ text. text ≡ text_of self.now) }
         ensures memory { IfErr result (λ fault. fault ≡ ScriptFault.NoMemory) }
     {

@@ -1,10 +1,10 @@
 ghost use Rattle.std.specs.Prelude.{◌≡◌, ℕ, Bool, [], List, Some, IfSome, drop, slice_get, length};
-ghost use Rattle.ppp_chat.specs.ChatState.{rest};
+ghost use Rattle.ppp_chat.specs.ChatState.{HasBegun, rest};
 ghost use Rattle.ppp_chat.specs.Course.{course, sending};
 ghost use Rattle.ppp_chat.specs.Event.{Event};
 ghost use Rattle.ppp_chat.specs.Room.{AreFew, AreSetAt, HasRoom, settings_with};
 ghost use Rattle.ppp_chat.specs.Texts.{kept_settings};
-ghost use Rattle.ppp_chat.specs.Walking.{Takes, IsWait, stage_at_end};
+ghost use Rattle.ppp_chat.specs.Walking.{Takes, stage_at_end};
 
 use crate::directives::Directives;
 use crate::now::ChatEnd;
@@ -34,7 +34,7 @@ impl Turn {
     // Waits for the string. An empty one is met at once.
     fn expect(&mut self, text: &Text, now: u64) -> Option<Stage>
         ensures takes { (steps : List Step) (d : Directives) → Takes steps (Step.Expect text.now) now d d self.old self.new result }
-        ensures waits { IfSome result IsWait }
+        ensures waits { IfSome result HasBegun }
     {
         if self.met {
             return None;
@@ -49,7 +49,7 @@ impl Turn {
     // Sends the octets, where there are some, or waits for the next call, where this one has sent others.
     fn send(&mut self, octets: &Text) -> Option<Stage>
         ensures takes { (steps : List Step) (now : ℕ) (d : Directives) → Takes steps (Step.Send octets.now) now d d self.old self.new result }
-        ensures waits { IfSome result IsWait }
+        ensures waits { IfSome result HasBegun }
     {
         if self.met {
             return None;
@@ -60,14 +60,14 @@ impl Turn {
         if !self.sent.is_empty() {
             return Some(Stage::Waiting);
         }
-        self.sent = SentOctets::of(octets);
+        self.sent.append(octets.as_slice());
         None
     }
 
     // Waits for the end of a delay.
     fn pause(&self, now: u64) -> Option<Stage>
         ensures takes { (milliseconds : ℕ) (steps : List Step) (d : Directives) → Takes steps (Step.Pause milliseconds) now d d self.now self.now result }
-        ensures waits { IfSome result IsWait }
+        ensures waits { IfSome result HasBegun }
     {
         if self.met {
             return None;
@@ -88,7 +88,7 @@ fn take(
     requires place { slice_get steps.now place ≡ Some step.now }
     requires room { HasRoom step.now (length directives.old.aborts.items) }
     ensures takes { Takes steps.now step.now now directives.old directives.new turn.old turn.new result }
-    ensures waits { IfSome result IsWait }
+    ensures waits { IfSome result HasBegun }
     ensures set { kept_settings steps.now directives.new ≡ settings_with step.now (kept_settings steps.now directives.old) }
     ensures stops { IfSome result (λ _. directives.new ≡ directives.old) }
 {
@@ -110,7 +110,7 @@ fn take(
 // What a call waits for where no step is left.
 fn stage_at_end(sent: &SentOctets) -> Stage
     ensures value { result ≡ stage_at_end sent.now }
-    ensures waits { IsWait result }
+    ensures waits { HasBegun result }
 {
     if sent.is_empty() {
         Stage::Over(ChatEnd::Done)
@@ -131,7 +131,7 @@ pub(crate) fn walk(
     requires set { AreSetAt steps.now from (kept_settings steps.now directives.old).aborts }
     ensures goes { (later : List Event) → course (drop from steps.now) met (kept_settings steps.now directives.old) now Bool.false later
         ≡ sending result.sent (rest result.stage (drop result.place steps.now) (kept_settings steps.now directives.new) [] later) }
-    ensures waits { IsWait result.stage }
+    ensures waits { HasBegun result.stage }
     ensures set { AreSetAt steps.now result.place (kept_settings steps.now directives.new).aborts }
 {
     let mut turn = Turn {

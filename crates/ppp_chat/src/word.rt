@@ -3,7 +3,7 @@ ghost use Rattle.std.specs.List.{slice_split};
 ghost use Rattle.ppp_chat.specs.Pieces.{pieces_of};
 ghost use Rattle.ppp_chat.specs.Reading.{Adds};
 ghost use Rattle.ppp_chat.specs.Steps.{flat, flat_directive, flat_expect, flat_send, directives_in};
-ghost use Rattle.ppp_chat.specs.Words.{abort_word, all_pieces, clear_word, directive_word, expect_word, is_digit, is_hyphen, keyword_of, ok_map, seconds_of, send_word, timeout_word, two_words};
+ghost use Rattle.ppp_chat.specs.Words.{abort_word, all_pieces, clear_word, directive_word, expect_word, is_hyphen, keyword_of, ok_map, seconds_of, send_word, timeout_word, two_words};
 
 use crate::directive::Directive;
 use crate::directives::MOST_ABORTS;
@@ -14,41 +14,21 @@ use crate::pieces::Pieces;
 use crate::send::push_send;
 use crate::step::Step;
 use crate::steps::Steps;
+use ppp_base::{LeadingZeros, read_number};
 use std::alloc::Global;
 
 /// The most octets of a string.
 const MOST_STRING: usize = 512;
 
 /// The most seconds of a timeout.
-const MOST_SECONDS: u32 = 65535;
-
-// Whether the octet is a decimal digit.
-fn is_digit(octet: u8) -> bool
-    ensures { result ≡ is_digit octet }
-{
-    b'0' <= octet && octet <= b'9'
-}
+const MOST_SECONDS: u64 = 65535;
 
 // The seconds of `TIMEOUT`, from 1 to 65535. Zeros may stand before them.
 fn seconds_of(word: &[u8]) -> Option<u16>
     ensures { result ≡ seconds_of word.now }
 {
-    let mut number = 0u32;
-    let mut left = word;
-    'digits: while let [octet, others @ ..] = left {
-        if !is_digit(*octet) {
-            return None;
-        }
-        number = number * 10 + u32::from(*octet - b'0');
-        if number > MOST_SECONDS {
-            return None;
-        }
-        left = others;
-    }
-    if number == 0 {
-        return None;
-    }
-    Some(number as u16)
+    let seconds = read_number(word, LeadingZeros::Lawful, 1, MOST_SECONDS)?;
+    Some(seconds as u16)
 }
 
 // Adds the steps of a word that is expected.

@@ -11,9 +11,9 @@ use Rattle.ppp_chat.proofs.chat.Chat.begin.Goals as goal
 -- what is answered and to come is what the script says
 begun : (c : goal.After-go_on) → Goes (λ later. ChatOf c.go_on.new.self.script (tick_at c.args.now ∷ later)) c.go_on.new.self c.go_on.result
 begun c =
-    begins c.self.inside.script (kept_settings (flat c.self.inside.script.items) c.new-self-inside.result) (tick_at c.args.now) c.go_on.new.self c.go_on.result
+    begins c.self.inside.script (kept_settings (flat c.self.inside.script.items) c.new-directives.result) (tick_at c.args.now) c.go_on.new.self c.go_on.result
     c.go_on.ensures.script
-    (c.new-self-inside.ensures.settings (flat c.self.inside.script.items) ∙ ap (λ (n : ℕ). settings_after n []) c.timeout_s.ensures)
+    (c.new-directives.ensures.settings (flat c.self.inside.script.items) ∙ ap (λ (n : ℕ). settings_after n []) c.timeout_s.ensures)
     c.go_on.ensures.goes
 
 pub returns-clause-stands : goal.returns-clause-stands
