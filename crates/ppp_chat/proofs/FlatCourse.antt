@@ -1,18 +1,18 @@
 -- What a script sends and how it ends, from its items and from its steps.
 use Rattle.std.proofs.Common.{ℕ, ◌≡◌, ◌+◌, Bool, true, false, cond, Option, None, Some, List, [], ◌∷◌, ◌++◌, length, refl, sym, ap, ◌∙◌, append_assoc, append-nil}
-use Rattle.ppp_chat.specs.ChatOf.{Course, Point, Reach, Behind, Waits, Ends, Run, done_at, ends, from_reach, and_then, point_at, sent_at, send_octets, behind_ending, wait_for, send_part, send_all, await_text, expect_any, run_items, end_at, outcome_at, course_at, ChatOf}
-use Rattle.ppp_chat.specs.Course.{going, ended, sending, is_last_part, Following, at_next, at_ending, awaiting, delaying, course}
+use Rattle.ppp_chat.specs.ChatOf.{Course, Point, Reach, Behind, Waits, Ends, Run, done_at, ends, from_reach, and_then, point_at, send_octets, behind_ending, send_part, send_all, await_text, expect_any, run_items, end_at, outcome_at, course_at, ChatOf}
+use Rattle.ppp_chat.specs.Course.{going, ended, sending, is_last_part, Following, at_ending, course}
 use Rattle.ppp_chat.specs.Ending.{Awaited, first_from, ending_at, delay_end_at}
 use Rattle.ppp_chat.specs.Event.{Event}
 use Rattle.ppp_chat.specs.Script.{SendPart, Octets, Delay, Instead, Expected, Item, Directs, Pair, ChatScript}
 use Rattle.ppp_chat.specs.Settings.{Settings, settings_after}
-use Rattle.ppp_chat.specs.Steps.{flat_send, flat_instead, flat_expect, flat_item, flat}
+use Rattle.ppp_chat.specs.Steps.{flat_send, flat_instead, flat_expect, flat}
 use Rattle.ppp_chat.specs.declared.directive.Directive.{Directive}
 use Rattle.ppp_chat.specs.declared.ending.Ending.{Ending}
 use Rattle.ppp_chat.specs.declared.ending.Ending.TheVariants.{TimeHasCome, Found, AbortFound}
-use Rattle.ppp_chat.specs.declared.now.ChatEnd.TheVariants.{Done, TimedOut, Aborted}
+use Rattle.ppp_chat.specs.declared.now.ChatEnd.TheVariants.{TimedOut}
 use Rattle.ppp_chat.specs.declared.step.Step.{Step}
-use Rattle.ppp_chat.specs.declared.step.Step.TheVariants.{Direct, Expect, Met, Send, Pause}
+use Rattle.ppp_chat.specs.declared.step.Step.TheVariants.{Expect, Met, Send}
 use Rattle.ppp_chat.proofs.SettingsSteps.{settings-more}
 
 -- a part of a script, and what follows at the point behind it

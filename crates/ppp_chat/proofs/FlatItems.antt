@@ -1,7 +1,7 @@
 -- The steps of items, and the items of steps.
-use Rattle.std.proofs.Common.{ℕ, ◌≡◌, Option, None, Some, List, [], ◌∷◌, ◌++◌, refl, sym, ap, ◌∙◌, append_assoc, append-nil}
+use Rattle.std.proofs.Common.{ℕ, ◌≡◌, List, [], ◌∷◌, ◌++◌, refl, sym, ap, ◌∙◌, append_assoc, append-nil}
 use Rattle.ppp_chat.specs.Script.{SendPart, Octets, Delay, Instead, Expected, Item, Directs, Pair, directives_of}
-use Rattle.ppp_chat.specs.Steps.{flat_part, flat_send, flat_instead, flat_expect, flat_item, flat, Begun, NoItem, Expects, Sends, items_from, items_of, directives_in}
+use Rattle.ppp_chat.specs.Steps.{flat_send, flat_instead, flat_expect, flat_item, flat, Expects, Sends, items_from, items_of, directives_in}
 use Rattle.ppp_chat.specs.declared.directive.Directive.{Directive}
 use Rattle.ppp_chat.specs.declared.step.Step.{Step}
 use Rattle.ppp_chat.specs.declared.step.Step.TheVariants.{Direct, Expect, Met, Send, Pause}

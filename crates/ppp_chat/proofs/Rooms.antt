@@ -1,8 +1,8 @@
 -- The abort strings that the steps before a place set, and the room for one more.
-use Rattle.std.proofs.Common.{ℕ, ◌≡◌, ◌+◌, ◌≤◌, ◌<◌, zero, suc, slice_get, Some, List, [], ◌∷◌, ◌++◌, length, map, take, refl, sym, ap, ◌∙◌, arith, add-one, append-nil, length-append}
+use Rattle.std.proofs.Common.{ℕ, ◌≡◌, ◌+◌, ◌<◌, zero, suc, slice_get, Some, List, [], ◌∷◌, ◌++◌, length, map, take, refl, sym, ap, ◌∙◌, arith, add-one, append-nil, length-append}
 use Rattle.ppp_chat.specs.Course.{obeyed}
 use Rattle.ppp_chat.specs.Room.{AreFew, AreSetAt, HasRoom, settings_with}
-use Rattle.ppp_chat.specs.Settings.{Settings, aborts_of, settings_after}
+use Rattle.ppp_chat.specs.Settings.{Settings, aborts_of}
 use Rattle.ppp_chat.specs.Steps.{directives_in}
 use Rattle.ppp_chat.specs.Texts.{abort_at, kept_settings}
 use Rattle.ppp_chat.specs.declared.directive.Directive.{Directive}

@@ -1,8 +1,8 @@
 -- What one more directive sets.
-use Rattle.std.proofs.Common.{ℕ, ◌≡◌, ◌*◌, Bool, true, false, cond, not, ◌||◌, nat_eq, filter, List, [], ◌∷◌, ◌++◌, refl, sym, ap, ◌∙◌}
+use Rattle.std.proofs.Common.{ℕ, ◌≡◌, ◌*◌, Bool, true, false, cond, not, ◌||◌, nat_eq, filter, List, [], ◌∷◌, ◌++◌, refl, ap, ◌∙◌}
 use Rattle.std.specs.Cmp.Lexicographic.{pointwise}
 use Rattle.ppp_chat.specs.Course.{obeyed}
-use Rattle.ppp_chat.specs.Settings.{Settings, aborts_of, is_cleared, seconds_after, settings_after}
+use Rattle.ppp_chat.specs.Settings.{aborts_of, is_cleared, seconds_after, settings_after}
 use Rattle.ppp_chat.specs.declared.directive.Directive.{Directive}
 use Rattle.ppp_chat.specs.declared.directive.Directive.TheVariants.{Abort, ClearAbort, Timeout}
 

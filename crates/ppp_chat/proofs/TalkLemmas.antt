@@ -1,15 +1,14 @@
 -- A conversation to which nothing comes sends nothing more; so what a call leaves is what was to come, without what it sent.
-use Rattle.std.proofs.Common.{◌≡◌, ℕ, false, Option, None, Some, List, [], ◌∷◌, ◌++◌, length, drop, refl, ap, sym, ◌∙◌, append-nil}
+use Rattle.std.proofs.Common.{◌≡◌, ℕ, false, List, [], ◌∷◌, ◌++◌, length, drop, refl, ap, sym, ◌∙◌, append-nil}
 use Rattle.ppp_chat.specs.ChatOf.{Course, ChatOf}
 use Rattle.ppp_chat.specs.ChatState.{ChatState, rest, rest_of, outcome_of, sent_by, answer, StandsFor, Answers}
-use Rattle.ppp_chat.specs.Course.{going, sending, course}
+use Rattle.ppp_chat.specs.Course.{sending, course}
 use Rattle.ppp_chat.specs.Event.{Event}
 use Rattle.ppp_chat.specs.Hearing.{Goes}
 use Rattle.ppp_chat.specs.Script.{ChatScript}
 use Rattle.ppp_chat.specs.Settings.{Settings, settings_after}
 use Rattle.ppp_chat.specs.Steps.{flat}
 use Rattle.ppp_chat.specs.Talk.{Talking, told, behind, answer_after}
-use Rattle.ppp_chat.specs.declared.now.ChatEnd.{ChatEnd}
 use Rattle.ppp_chat.specs.declared.now.ChatNow.{ChatNow}
 use Rattle.ppp_chat.specs.declared.stage.Stage.{Stage}
 use Rattle.ppp_chat.specs.declared.stage.Stage.TheVariants.{NotBegun, Expecting, Pausing, Waiting, Over}

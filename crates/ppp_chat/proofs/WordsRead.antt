@@ -5,10 +5,10 @@ use Rattle.std.specs.List.{slice_split}
 use Rattle.std.proofs.lemmas.List.{take_all}
 use Rattle.ppp_chat.specs.Pieces.{pieces_of}
 use Rattle.ppp_chat.specs.Reading.{Adds, Gives, NamesWord}
-use Rattle.ppp_chat.specs.Script.{SendPart, Expected, Item, Directs, Pair, ChatScript, directives_of}
+use Rattle.ppp_chat.specs.Script.{SendPart, Expected, Item, Directs, Pair, directives_of}
 use Rattle.ppp_chat.specs.Settings.{aborts_of}
 use Rattle.ppp_chat.specs.Steps.{flat, flat_expect, items_of, directives_in}
-use Rattle.ppp_chat.specs.Words.{abort_word, all_pieces, clear_word, directive_word, expect_word, expected_of, fits, in_twos, is_hyphen, items_behind, keyword_of, keyword_words, ok_map, ok_then, pair_words, script_of, seconds_of, send_of, send_word, timeout_word, two_words, word_of}
+use Rattle.ppp_chat.specs.Words.{abort_word, all_pieces, clear_word, directive_word, expect_word, expected_of, fits, in_twos, is_hyphen, items_behind, keyword_of, ok_map, ok_then, script_of, seconds_of, send_of, send_word, timeout_word, two_words, word_of}
 use Rattle.ppp_chat.specs.declared.directive.Directive.{Directive}
 use Rattle.ppp_chat.specs.declared.fault.ScriptFault.{ScriptFault}
 use Rattle.ppp_chat.specs.declared.fault.ScriptFault.TheVariants.{BadEscape, BadNumber, TooManyAborts, TooLong, NoMemory}

@@ -2,7 +2,7 @@
 use Rattle.std.specs.Prelude.{ℕ, ◌+◌, suc, Bool, true, false, if◌then◌else◌, Option, None, Some, List, [], ◌∷◌, ◌++◌, length, drop}
 use Rattle.ppp_chat.specs.Event.{Event}
 use Rattle.ppp_chat.specs.Ending.{Awaited, event_at, ending_at, delay_end_at, first_from}
-use Rattle.ppp_chat.specs.Script.{SendPart, Octets, Delay, Instead, Expected, Item, Directs, Pair, ChatScript}
+use Rattle.ppp_chat.specs.Script.{SendPart, Octets, Delay, Instead, Item, Directs, Pair, ChatScript}
 use Rattle.ppp_chat.specs.Settings.{Settings, settings_after}
 use Rattle.ppp_chat.specs.declared.directive.Directive.{Directive}
 use Rattle.ppp_chat.specs.declared.ending.Ending.{Ending}

@@ -1,5 +1,4 @@
-use Rattle.std.proofs.Common.{◌≡◌, ◌∙◌, sym, None}
-use Rattle.ppp_chat.specs.Words.{keyword_of}
+use Rattle.std.proofs.Common.{◌∙◌, sym}
 use Rattle.ppp_chat.proofs.WordsRead.{last-adds}
 use Rattle.ppp_chat.proofs.word.read_last.Goals as goal
 

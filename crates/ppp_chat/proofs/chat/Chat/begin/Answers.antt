@@ -1,6 +1,6 @@
-use Rattle.std.proofs.Common.{◌≡◌, ◌∷◌, ◌∙◌, ap, ℕ, [], List}
+use Rattle.std.proofs.Common.{◌∷◌, ◌∙◌, ap, ℕ, []}
 use Rattle.ppp_chat.specs.ChatOf.{ChatOf}
-use Rattle.ppp_chat.specs.Event.{Event, tick_at}
+use Rattle.ppp_chat.specs.Event.{tick_at}
 use Rattle.ppp_chat.specs.Hearing.{Goes}
 use Rattle.ppp_chat.specs.Settings.{settings_after}
 use Rattle.ppp_chat.specs.Steps.{flat}

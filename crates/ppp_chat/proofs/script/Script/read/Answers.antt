@@ -1,5 +1,4 @@
-use Rattle.std.proofs.Common.{◌≡◌, ◌+◌, ◌-◌, ◌∙◌, ℕ, List, [], ◌∷◌, Ok, Err, refl, map, length, take, drop, Some, None, rules, arith, length-take, length-drop}
-use Rattle.std.proofs.lemmas.Grind.{common_steps}
+use Rattle.std.proofs.Common.{◌≡◌, ◌-◌, ℕ, [], Ok, Err, refl, map, length, take, drop, Some, None, rules, arith, length-take, length-drop}
 use Rattle.std.specs.Global.{Vec}
 use Rattle.ppp_chat.specs.Reading.{Gives, NamesWord}
 use Rattle.ppp_chat.specs.Words.{in_twos, script_of}

@@ -1,4 +1,4 @@
-use Rattle.std.proofs.Common.{◌≡◌, ◌∙◌, ◌++◌, ◌∷◌, ◌<◌, [], ap, refl, length, arith}
+use Rattle.std.proofs.Common.{◌≡◌, ◌∙◌, ◌++◌, ◌∷◌, [], ap, length, arith}
 use Rattle.std.proofs.lemmas.Grind.{common_steps}
 use Rattle.ppp_chat.specs.Room.{settings_with}
 use Rattle.ppp_chat.specs.Texts.{kept_settings}

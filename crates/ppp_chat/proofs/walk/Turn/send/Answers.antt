@@ -1,4 +1,4 @@
-use Rattle.std.proofs.Common.{◌≡◌, ◌++◌, ◌∙◌, ℕ, List, rules, sym, ap}
+use Rattle.std.proofs.Common.{◌≡◌, ◌∙◌, ℕ, List, rules, sym, ap}
 use Rattle.ppp_chat.specs.Texts.{kept_settings}
 use Rattle.ppp_chat.specs.Walking.{so_far}
 use Rattle.ppp_chat.proofs.Sending.{none_before, send_waits, send_sends}
