@@ -13,3 +13,5 @@ pub mod SettingsSteps
 pub mod Rooms
 pub mod WordsRead
 pub mod TalkLemmas
+pub mod FirstFault
+pub mod FirstEnding

@@ -168,11 +168,11 @@ long-within : {X : Type 0} (number low high : ℕ) (b : Bool) (x : X) → low �
 long-within number low high true x below above = tt
 long-within number low high false x below above = (below, above)
 
-expect-within : (number low high : ℕ) (parts : Option (List (List Piece))) → low ≤ number → number < high → FaultWithin low high (expect_word number parts)
+pub expect-within : (number low high : ℕ) (parts : Option (List (List Piece))) → low ≤ number → number < high → FaultWithin low high (expect_word number parts)
 expect-within number low high None below above = (below, above)
 expect-within number low high (Some parts) below above = long-within number low high (fits parts) (expected_of parts) below above
 
-send-within : (number low high : ℕ) (pieces : Option (List Piece)) → low ≤ number → number < high → FaultWithin low high (send_word number pieces)
+pub send-within : (number low high : ℕ) (pieces : Option (List Piece)) → low ≤ number → number < high → FaultWithin low high (send_word number pieces)
 send-within number low high None below above = (below, above)
 send-within number low high (Some pieces) below above = long-within number low high (fits (pieces ∷ [])) (send_of pieces) below above
 
@@ -181,7 +181,7 @@ many-within : (number low high : ℕ) (b : Bool) (r : Result Directive ScriptFau
 many-within number low high true r below above within = (below, above)
 many-within number low high false r below above within = within
 
-directive-within : (number low high : ℕ) (before : List Directive) (keyword : Keyword) (word : List ℕ) → low ≤ number → number < high
+pub directive-within : (number low high : ℕ) (before : List Directive) (keyword : Keyword) (word : List ℕ) → low ≤ number → number < high
     → FaultWithin low high (directive_word number before keyword word)
 directive-within number low high before SetsAbort word below above = abort (pieces_of word)
   where
@@ -201,7 +201,7 @@ directive-within number low high before SetsTimeout word below above = timeout (
     timeout None = (below, above)
     timeout (Some seconds) = tt
 
-map-within : {X Y : Type 0} (f : X → Y) (low high : ℕ) (r : Result X ScriptFault) → FaultWithin low high r → FaultWithin low high (ok_map f r)
+pub map-within : {X Y : Type 0} (f : X → Y) (low high : ℕ) (r : Result X ScriptFault) → FaultWithin low high r → FaultWithin low high (ok_map f r)
 map-within f low high (Ok x) within = tt
 map-within f low high (Err fault) within = within
 
@@ -237,7 +237,7 @@ wider : {X : Type 0} (low more high : ℕ) (r : Result X ScriptFault) → low �
 wider low more high (Ok x) below within = tt
 wider low more high (Err fault) below within = wider-fault low more high (word_of fault) below within
 
-items-within : (number high : ℕ) (before : List Directive) (words : List (List ℕ)) → number + length words ≤ high → FaultWithin number high (items_behind number before (in_twos words))
+pub items-within : (number high : ℕ) (before : List Directive) (words : List (List ℕ)) → number + length words ≤ high → FaultWithin number high (items_behind number before (in_twos words))
 items-within number high before [] above = tt
 items-within number high before (last ∷ []) above =
     then-within number high (two_words number before last (keyword_of last) None)

@@ -1,16 +1,20 @@
 // Laws of the definitions that the contracts cite.
-ghost use Rattle.std.specs.Prelude.{◌≡◌, ◌++◌, ◌∷◌, [], Bool, List, Some, Ok, Err, codes};
+ghost use Rattle.std.specs.Prelude.{◌≡◌, ◌+◌, ◌<◌, ◌++◌, ◌∷◌, [], ℕ, Bool, List, Option, Some, None, Ok, Err, IsOk, codes, replicate, take};
 ghost use Rattle.ppp_chat.specs.ChatOf.{ChatOf};
 ghost use Rattle.ppp_chat.specs.ChatState.{Answers};
 ghost use Rattle.ppp_chat.specs.Course.{course};
+ghost use Rattle.ppp_chat.specs.Ending.{first_from};
 ghost use Rattle.ppp_chat.specs.Event.{Event, tick_at, octet_at};
 ghost use Rattle.ppp_chat.specs.Script.{ChatScript, Item};
 ghost use Rattle.ppp_chat.specs.Settings.{settings_after};
 ghost use Rattle.ppp_chat.specs.Steps.{flat, items_of};
 ghost use Rattle.ppp_chat.specs.Talk.{answer_after, says};
-ghost use Rattle.ppp_chat.specs.declared.fault.ScriptFault.TheVariants.{BadEscape, BadNumber};
+ghost use Rattle.ppp_chat.specs.Words.{script_of, word_of};
+ghost use Rattle.ppp_chat.specs.declared.fault.ScriptFault.TheVariants.{BadEscape, BadNumber, TooLong};
 ghost use Rattle.ppp_chat.specs.declared.now.ChatNow.TheVariants.{Going, Sent, Done, TimedOut, Aborted};
 
+use crate::ending::Ending;
+use crate::fault::ScriptFault;
 use crate::now::{ChatEnd, ChatNow};
 
 /// Where a script has ended, more events change nothing.
@@ -30,6 +34,19 @@ pub fn steps_say_the_same()
     ensures course { (script : ChatScript) (begin : Event) (later : List Event)
         → ChatOf script (begin ∷ later) ≡ course (flat script.items) Bool.false (settings_after script.timeout_s []) begin.at Bool.false later }
     ensures back { (items : List Item) → items_of (flat items) ≡ items }
+{}
+
+/// An expect or a delay ends with the first event that ends it.
+pub fn the_first_ends()
+    ensures found { (ends : ℕ → Option Ending) (count place : ℕ) (how : Ending) → first_from ends 0 count ≡ Some (place, how)
+        → (ends place ≡ Some how) × (place < count) × ((i : ℕ) → i < place → ends i ≡ None) }
+    ensures none { (ends : ℕ → Option Ending) (count : ℕ) → first_from ends 0 count ≡ None → (i : ℕ) → i < count → ends i ≡ None }
+{}
+
+/// A fault is that of the first word that has one: the words up to it have it, and those before it are a script.
+pub fn a_fault_is_the_first()
+    ensures { (words : List (List ℕ)) (fault : ScriptFault) (place : ℕ) → script_of words ≡ Err fault → word_of fault ≡ Some (place + 1)
+        → (script_of (take (place + 1) words) ≡ Err fault) × ((items : List Item) × (script_of (take place words) ≡ Ok items)) }
 {}
 
 /// A busy line, begun at 0, and the octets `BU` and `SY`. After the end each call is answered the same again.
@@ -94,4 +111,12 @@ pub fn words()
     ensures too_great { says (codes "TIMEOUT 65536 A ''") 45 [] ≡ Err (BadNumber 2) }
     ensures greatest { says (codes "TIMEOUT 65535 A ''") 45 [] ≡ Ok [] }
     ensures none { says (codes "TIMEOUT 0 A ''") 45 [] ≡ Err (BadNumber 2) }
+{}
+
+/// A string has at most 512 octets; hyphens count, and a return does not.
+pub fn lengths()
+    ensures send { IsOk (script_of (codes "''" ∷ replicate 512 97 ∷ [])) }
+    ensures long_send { script_of (codes "''" ∷ replicate 513 97 ∷ []) ≡ Err (TooLong 2) }
+    ensures parts { IsOk (script_of ((replicate 255 97 ++ 45 ∷ replicate 256 97) ∷ [])) }
+    ensures long_parts { script_of ((replicate 256 97 ++ 45 ∷ replicate 256 97) ∷ []) ≡ Err (TooLong 1) }
 {}
