@@ -1,7 +1,11 @@
 -- Where a script has ended, more events change nothing.
 use Rattle.std.proofs.Common.{ℕ, ◌≡◌, ◌+◌, Bool, true, false, cond, if◌then◌else◌, nat_le, Option, None, Some, List, [], ◌∷◌, ◌++◌, refl, sym, ap, ◌∙◌}
 use Rattle.std.specs.List.{cons_option}
-use Rattle.ppp_chat.specs.ChatOf.{ChatScript, Course, Settings, Following, ended, sending, at_next, awaiting, delaying, is_last_part, course, first_settings, with_abort, without_abort, with_timeout, ChatOf}
+use Rattle.ppp_chat.specs.Script.{ChatScript}
+use Rattle.ppp_chat.specs.ChatOf.{Course, ChatOf}
+use Rattle.ppp_chat.specs.Settings.{Settings, settings_after}
+use Rattle.ppp_chat.specs.Steps.{flat}
+use Rattle.ppp_chat.specs.Course.{Following, ended, sending, at_next, awaiting, delaying, is_last_part, course, obeyed}
 use Rattle.ppp_chat.specs.Ending.{Awaited, ending}
 use Rattle.ppp_chat.specs.Event.{Event}
 use Rattle.ppp_chat.specs.declared.ending.Ending.{Ending}
@@ -9,7 +13,8 @@ use Rattle.ppp_chat.specs.declared.ending.Ending.TheVariants.{TimeHasCome, Found
 use Rattle.ppp_chat.specs.declared.now.ChatEnd.{ChatEnd}
 use Rattle.ppp_chat.specs.declared.now.ChatEnd.TheVariants.{Done, TimedOut}
 use Rattle.ppp_chat.specs.declared.step.Step.{Step}
-use Rattle.ppp_chat.specs.declared.step.Step.TheVariants.{Abort, ClearAbort, Timeout, Expect, Met, Send, Pause}
+use Rattle.ppp_chat.specs.declared.step.Step.TheVariants.{Direct, Expect, Met, Send, Pause}
+use Rattle.ppp_chat.proofs.FlatCourse.{chat-course}
 use Rattle.ppp_chat.proofs.Endings.{first_or, awaiting-cons, delaying-cons}
 
 -- what has ended after these events is the same after more
@@ -84,15 +89,11 @@ course-stays : (steps : List Step) (met : Bool) (s : Settings) (now : ℕ) (has_
     → Stays (course steps met s now has_sent) later more
 course-stays [] met s now has_sent later more = end-stays has_sent later more
 course-stays (Met ∷ steps) met s now has_sent later more = course-stays steps false s now has_sent later more
-course-stays (Abort text ∷ steps) true s now has_sent later more = course-stays steps true s now has_sent later more
-course-stays (ClearAbort text ∷ steps) true s now has_sent later more = course-stays steps true s now has_sent later more
-course-stays (Timeout seconds ∷ steps) true s now has_sent later more = course-stays steps true s now has_sent later more
+course-stays (Direct directive ∷ steps) true s now has_sent later more = course-stays steps true (obeyed directive s) now has_sent later more
 course-stays (Expect text ∷ steps) true s now has_sent later more = course-stays steps true s now has_sent later more
 course-stays (Send octets ∷ steps) true s now has_sent later more = course-stays steps true s now has_sent later more
 course-stays (Pause milliseconds ∷ steps) true s now has_sent later more = course-stays steps true s now has_sent later more
-course-stays (Abort text ∷ steps) false s now has_sent later more = course-stays steps false (with_abort text s) now has_sent later more
-course-stays (ClearAbort text ∷ steps) false s now has_sent later more = course-stays steps false (without_abort text s) now has_sent later more
-course-stays (Timeout seconds ∷ steps) false s now has_sent later more = course-stays steps false (with_timeout seconds s) now has_sent later more
+course-stays (Direct directive ∷ steps) false s now has_sent later more = course-stays steps false (obeyed directive s) now has_sent later more
 course-stays (Expect [] ∷ steps) false s now has_sent later more = course-stays steps true s now has_sent later more
 course-stays (Expect (octet ∷ octets) ∷ steps) false s now has_sent later more =
     awaiting-stays (record { text = octet ∷ octets; until = now + s.timeout; aborts = s.aborts }) []
@@ -116,4 +117,8 @@ course-stays (Pause milliseconds ∷ steps) false s now has_sent later more =
 pub chat-stays : (script : ChatScript) (events more : List Event) (how : ChatEnd) → (ChatOf script events).outcome ≡ Some how
     → ChatOf script (events ++ more) ≡ ChatOf script events
 chat-stays script [] more how e = absurd (none_is_some how e)
-chat-stays script (begin ∷ later) more how e = (course-stays script.steps false (first_settings script) begin.at false later more).stays how e
+chat-stays script (begin ∷ later) more how e =
+    let s : Settings = settings_after script.timeout_s [] in
+    chat-course script begin (later ++ more)
+    ∙ (course-stays (flat script.items) false s begin.at false later more).stays how (ap (λ (c : Course). c.outcome) (sym (chat-course script begin later)) ∙ e)
+    ∙ sym (chat-course script begin later)

@@ -1,7 +1,8 @@
 -- The first ending, when the first of the events is taken off.
 use Rattle.std.proofs.Common.{ℕ, ◌≡◌, zero, suc, Bool, true, false, cond, nat_le, Option, None, Some, List, [], ◌∷◌, ◌++◌, length, take, refl, sym, ap, ◌∙◌, append_assoc}
 use Rattle.std.specs.List.{cons_option}
-use Rattle.ppp_chat.specs.ChatOf.{Course, Following, at_ending, awaiting, delaying}
+use Rattle.ppp_chat.specs.ChatOf.{Course}
+use Rattle.ppp_chat.specs.Course.{Following, at_ending, awaiting, delaying}
 use Rattle.ppp_chat.specs.Ending.{Awaited, ending, ending_at, delay_end_at, event_at, first_from, here_or}
 use Rattle.ppp_chat.specs.Event.{Event, heard}
 use Rattle.ppp_chat.specs.declared.ending.Ending.{Ending}

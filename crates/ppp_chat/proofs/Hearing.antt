@@ -1,19 +1,22 @@
 -- What one event does while an expect or a delay goes on.
 use Rattle.std.proofs.Common.{ℕ, ◌≡◌, ◌+◌, ◌≤◌, zero, suc, Bool, false, cond, nat_le, Option, None, Some, List, [], ◌∷◌, ◌++◌, length, drop, map, refl, sym, ap, ◌∙◌, arith, add-one, append-nil, slice_get}
 use Rattle.std.specs.List.{cons_option}
-use Rattle.ppp_chat.specs.ChatOf.{Course, Settings, Following, course, awaiting}
+use Rattle.ppp_chat.specs.ChatOf.{Course}
+use Rattle.ppp_chat.specs.Settings.{Settings}
+use Rattle.ppp_chat.specs.Course.{Following, course, awaiting}
 use Rattle.ppp_chat.specs.ChatState.{awaited, after_found, after_late, expecting, pausing}
 use Rattle.ppp_chat.specs.Ending.{Awaited, ending}
 use Rattle.ppp_chat.specs.Event.{Event}
 use Rattle.ppp_chat.specs.Hearing.{window_after, after_ending}
-use Rattle.ppp_chat.specs.Texts.{abort_at, abort_of, settings_of, IsShort, AreShort}
+use Rattle.ppp_chat.specs.Texts.{abort_at, abort_of, kept_settings, IsShort, AreShort}
+use Rattle.ppp_chat.specs.declared.directive.Directive.TheVariants.{Abort, ClearAbort, Timeout}
 use Rattle.ppp_chat.specs.declared.directives.Directives.{Directives}
 use Rattle.ppp_chat.specs.declared.ending.Ending.{Ending}
 use Rattle.ppp_chat.specs.declared.ending.Ending.TheVariants.{TimeHasCome, Found, AbortFound}
 use Rattle.ppp_chat.specs.declared.stage.Stage.{Stage}
 use Rattle.ppp_chat.specs.declared.stage.Stage.TheVariants.{NotBegun, Expecting, Pausing}
 use Rattle.ppp_chat.specs.declared.step.Step.{Step}
-use Rattle.ppp_chat.specs.declared.step.Step.TheVariants.{Abort, ClearAbort, Timeout, Expect, Met, Send, Pause}
+use Rattle.ppp_chat.specs.declared.step.Step.TheVariants.{Direct, Expect, Met, Send, Pause}
 use Rattle.ppp_chat.proofs.Endings.{first_or, awaiting-cons, delaying-cons}
 use Rattle.ppp_chat.proofs.Windows.{NoneIsLong, awaiting-latest, ending-latest-now}
 
@@ -27,9 +30,9 @@ pub drop-at : (steps : List Step) (place : ℕ) (step : Step) → slice_get step
 drop-at steps place step is = rw add-one (drop-suc steps place step is)
 
 short-of : (step : Step) → IsShort step → length (abort_of (Some step)) ≤ 513
-short-of (Abort text) short = short
-short-of (ClearAbort text) short = omega arith
-short-of (Timeout seconds) short = omega arith
+short-of (Direct (Abort text)) short = short
+short-of (Direct (ClearAbort text)) short = omega arith
+short-of (Direct (Timeout seconds)) short = omega arith
 short-of (Expect text) short = omega arith
 short-of Met short = omega arith
 short-of (Send octets) short = omega arith
@@ -46,9 +49,7 @@ none-is-long steps [] short = tt
 none-is-long steps (place ∷ places) short = (short-at steps place short, none-is-long steps places short)
 
 short-expect : (step : Step) (text : List ℕ) → IsShort step → step ≡ Expect text → length text ≤ 513
-short-expect (Abort other) text short is = absurd (cc (is))
-short-expect (ClearAbort other) text short is = absurd (cc (is))
-short-expect (Timeout seconds) text short is = absurd (cc (is))
+short-expect (Direct directive) text short is = absurd (cc (is))
 short-expect (Expect other) text short is = let same : other ≡ text = cc (is) in omega (arith, ap length same)
 short-expect Met text short is = absurd (cc (is))
 short-expect (Send octets) text short is = absurd (cc (is))
@@ -85,13 +86,13 @@ expecting-step text left s began window event later short aborts =
 -- An event while the expect at this place goes on.
 pub expect_step : (steps : List Step) (place : ℕ) (text : List ℕ) (d : Directives) (began : ℕ) (window : List ℕ) (event : Event) (later : List Event)
     → AreShort steps → slice_get steps place ≡ Some (Expect text)
-    → expecting (drop place steps) (settings_of steps d) began window (event ∷ later)
-    ≡ first_or (ending (awaited text (settings_of steps d) began) (window_after window event.octet) event)
-    (after_found (drop (place + 1) steps) (settings_of steps d)) (after_late (drop (place + 1) steps) (settings_of steps d)) event later
-    (expecting (drop place steps) (settings_of steps d) began (window_after window event.octet) later)
+    → expecting (drop place steps) (kept_settings steps d) began window (event ∷ later)
+    ≡ first_or (ending (awaited text (kept_settings steps d) began) (window_after window event.octet) event)
+    (after_found (drop (place + 1) steps) (kept_settings steps d)) (after_late (drop (place + 1) steps) (kept_settings steps d)) event later
+    (expecting (drop place steps) (kept_settings steps d) began (window_after window event.octet) later)
 expect_step steps place text d began window event later short is =
     rw (drop-at steps place (Expect text) is)
-    (expecting-step text (drop (place + 1) steps) (settings_of steps d) began window event later
+    (expecting-step text (drop (place + 1) steps) (kept_settings steps d) began window event later
     (short-text steps place text short is) (none-is-long steps d.aborts.items short))
 
 -- An event while the delay at this place goes on.
@@ -111,28 +112,28 @@ ends-so (AbortFound number) left s event later other = refl
 
 hears : (steps : List Step) (place : ℕ) (text : List ℕ) (d : Directives) (began : ℕ) (window w : List ℕ) (event : Event) (o : Option Ending)
     → AreShort steps → slice_get steps place ≡ Some (Expect text) → w ≡ window_after window event.octet
-    → o ≡ ending (awaited text (settings_of steps d) began) w event → (later : List Event)
-    → expecting (drop place steps) (settings_of steps d) began window (event ∷ later)
-    ≡ first_or o (after_found (drop (place + 1) steps) (settings_of steps d)) (after_late (drop (place + 1) steps) (settings_of steps d)) event later
-    (expecting (drop place steps) (settings_of steps d) began w later)
+    → o ≡ ending (awaited text (kept_settings steps d) began) w event → (later : List Event)
+    → expecting (drop place steps) (kept_settings steps d) began window (event ∷ later)
+    ≡ first_or o (after_found (drop (place + 1) steps) (kept_settings steps d)) (after_late (drop (place + 1) steps) (kept_settings steps d)) event later
+    (expecting (drop place steps) (kept_settings steps d) began w later)
 hears steps place text d began window w event o short is after ends later =
     rw (ends, after) (expect_step steps place text d began window event later short is)
 
 -- The same, where the event ends the expect.
 pub hears-end : (steps : List Step) (place : ℕ) (text : List ℕ) (d : Directives) (began : ℕ) (window w : List ℕ) (event : Event) (how : Ending)
     → AreShort steps → slice_get steps place ≡ Some (Expect text) → w ≡ window_after window event.octet
-    → Some how ≡ ending (awaited text (settings_of steps d) began) w event → (later : List Event)
-    → expecting (drop place steps) (settings_of steps d) began window (event ∷ later)
-    ≡ after_ending how (drop (place + 1) steps) (settings_of steps d) event.at later
+    → Some how ≡ ending (awaited text (kept_settings steps d) began) w event → (later : List Event)
+    → expecting (drop place steps) (kept_settings steps d) began window (event ∷ later)
+    ≡ after_ending how (drop (place + 1) steps) (kept_settings steps d) event.at later
 hears-end steps place text d began window w event how short is after ends later =
     hears steps place text d began window w event (Some how) short is after ends later
-    ∙ ends-so how (drop (place + 1) steps) (settings_of steps d) event later (expecting (drop place steps) (settings_of steps d) began w later)
+    ∙ ends-so how (drop (place + 1) steps) (kept_settings steps d) event later (expecting (drop place steps) (kept_settings steps d) began w later)
 
 -- The same, where it doesn't.
 pub hears-none : (steps : List Step) (place : ℕ) (text : List ℕ) (d : Directives) (began : ℕ) (window w : List ℕ) (event : Event)
     → AreShort steps → slice_get steps place ≡ Some (Expect text) → w ≡ window_after window event.octet
-    → None ≡ ending (awaited text (settings_of steps d) began) w event → (later : List Event)
-    → expecting (drop place steps) (settings_of steps d) began window (event ∷ later) ≡ expecting (drop place steps) (settings_of steps d) began w later
+    → None ≡ ending (awaited text (kept_settings steps d) began) w event → (later : List Event)
+    → expecting (drop place steps) (kept_settings steps d) began window (event ∷ later) ≡ expecting (drop place steps) (kept_settings steps d) began w later
 hears-none steps place text d began window w event short is after ends later =
     hears steps place text d began window w event None short is after ends later
 

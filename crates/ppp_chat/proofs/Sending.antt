@@ -1,10 +1,14 @@
 -- A send, and where a call that has sent stops.
-use Rattle.std.proofs.Common.{ℕ, ◌≡◌, true, false, nat_eq, List, [], ◌∷◌, length, refl, sym, ◌∙◌, arith}
+use Rattle.std.proofs.Common.{ℕ, ◌≡◌, true, false, nat_eq, IfSome, Option, None, Some, List, [], ◌∷◌, ◌++◌, length, refl, sym, ◌∙◌, arith}
 use Rattle.std.proofs.lemmas.Bool.Decides.{nat_tests}
-use Rattle.ppp_chat.specs.ChatOf.{Settings, Course, sending, at_next}
+use Rattle.ppp_chat.specs.Settings.{Settings}
+use Rattle.ppp_chat.specs.ChatOf.{Course}
+use Rattle.ppp_chat.specs.Course.{sending, at_next}
 use Rattle.ppp_chat.specs.ChatState.{rest}
 use Rattle.ppp_chat.specs.Event.{Event}
 use Rattle.ppp_chat.specs.Walking.{so_far}
+use Rattle.ppp_chat.specs.declared.directives.Directives.{Directives}
+use Rattle.ppp_chat.specs.declared.stage.Stage.{Stage}
 use Rattle.ppp_chat.specs.declared.stage.Stage.TheVariants.{Waiting}
 use Rattle.ppp_chat.specs.declared.step.Step.{Step}
 use Rattle.ppp_chat.specs.declared.step.Step.TheVariants.{Send}
@@ -45,3 +49,13 @@ pub send_sends : (turn : Turn) (octets : List ℕ) (left : List Step) (s : Setti
     → nat_eq (length octets) 0 ≡ false → nat_eq (length turn.sent) 0 ≡ true
     → so_far turn (Send octets ∷ left) s now later ≡ so_far (record { met = turn.met; sent = octets }) left s now later
 send_sends turn octets left s now later met some has = rw met (sends turn.sent octets left s now later some has)
+
+-- what stays is so, where a call stops
+pub stays_where_stopped : (o : Option Stage) (d : Directives) → IfSome o (λ _. d ≡ d)
+stays_where_stopped None d = tt
+stays_where_stopped (Some stage) d = refl
+
+-- behind no octets others stand alone
+pub none_before : (sent octets : List ℕ) → nat_eq (length sent) 0 ≡ true → sent ++ octets ≡ octets
+none_before [] octets none = refl
+none_before (x ∷ sent) octets none = absurd (true_is_not_false (sym none ∙ is_some x sent))

@@ -5,7 +5,7 @@ use Rattle.std.specs.Cmp.Lexicographic.{pointwise}
 use Rattle.std.proofs.lemmas.Bool.{cases_lt}
 use Rattle.std.proofs.lemmas.List.{take-append-drop}
 use Rattle.std.proofs.Math.Seq.{drop-append-add}
-use Rattle.ppp_chat.specs.ChatOf.{Following, at_ending, awaiting}
+use Rattle.ppp_chat.specs.Course.{Following, at_ending, awaiting}
 use Rattle.ppp_chat.specs.Ending.{Awaited, is_found, abort_found, ending, ending_at, event_at}
 use Rattle.ppp_chat.specs.Event.{Event, heard}
 use Rattle.ppp_chat.specs.Texts.{latest}

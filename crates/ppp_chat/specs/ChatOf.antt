@@ -1,114 +1,127 @@
--- What a script sends and how it ends (chat(8), "Chat script").
-use Rattle.std.specs.Prelude.{ℕ, ◌+◌, ◌*◌, suc, Bool, true, false, if◌then◌else◌, Option, None, Some, List, [], ◌∷◌, ◌++◌, length, drop, filter, nat_lt, nat_eq, not}
-use Rattle.std.specs.Cmp.Lexicographic.{pointwise}
+-- What a script sends and how it ends (chat(8), "Chat script"), over the calls since it was begun.
+use Rattle.std.specs.Prelude.{ℕ, ◌+◌, suc, Bool, true, false, if◌then◌else◌, Option, None, Some, List, [], ◌∷◌, ◌++◌, length, drop}
 use Rattle.ppp_chat.specs.Event.{Event}
 use Rattle.ppp_chat.specs.Ending.{Awaited, event_at, ending_at, delay_end_at, first_from}
+use Rattle.ppp_chat.specs.Script.{SendPart, Octets, Delay, Instead, Item, Directs, Pair, ChatScript}
+use Rattle.ppp_chat.specs.Settings.{Settings, settings_after}
+use Rattle.ppp_chat.specs.declared.directive.Directive.{Directive}
 use Rattle.ppp_chat.specs.declared.ending.Ending.{Ending}
 use Rattle.ppp_chat.specs.declared.ending.Ending.TheVariants.{TimeHasCome, Found, AbortFound}
-use Rattle.ppp_chat.specs.declared.step.Step.{Step}
-use Rattle.ppp_chat.specs.declared.step.Step.TheVariants.{Abort, ClearAbort, Timeout, Expect, Met, Send, Pause}
 use Rattle.ppp_chat.specs.declared.now.ChatEnd.{ChatEnd}
 use Rattle.ppp_chat.specs.declared.now.ChatEnd.TheVariants.{Done, TimedOut, Aborted}
-
--- a script: its steps, and the seconds after which an expect is late where no step says others
-pub record ChatScript : Type 0 where
-  pub steps : List Step
-  pub timeout_s : ℕ
 
 -- what has been sent, and how the script has ended, if it has
 pub record Course : Type 0 where
   pub sent : List ℕ
   pub outcome : Option ChatEnd
 
--- what the directives set: the abort strings in the order in which they were set, and the time of an expect in milliseconds
-pub record Settings : Type 0 where
-  pub aborts : List (List ℕ)
-  pub timeout : ℕ
+-- Where a script is: the moment of an event, whether octets were sent with it, and the events after it. Places are counted from the first of those.
+pub record Point : Type 0 where
+  pub now : ℕ
+  pub has_sent : Bool
+  pub later : List Event
 
--- it goes on, and nothing more is sent so far
-abbrev pub going : Course
-going = record { sent = []; outcome = None }
+-- how far a part of a script has come: it is done and this is the point behind it, or it waits behind all events, or the script has ended
+pub data Reach : Type 0 where
+  Behind : Point → Reach
+  Waits : Reach
+  Ends : ChatEnd → Reach
 
-abbrev pub ended : ChatEnd → Course
-ended how = record { sent = []; outcome = Some how }
+-- what a part of a script has sent, and how far it has come
+pub record Run : Type 0 where
+  pub sent : List ℕ
+  pub reach : Reach
 
--- these octets, and then the rest
-abbrev pub sending : List ℕ → Course → Course
-sending octets rest = record { sent = octets ++ rest.sent; outcome = rest.outcome }
+abbrev pub done_at : Point → Run
+done_at p = record { sent = []; reach = Behind p }
 
--- No more than 50 are set at once: reading refuses a script that would set more.
-abbrev pub with_abort : List ℕ → Settings → Settings
-with_abort text s = record { aborts = if nat_lt (length s.aborts) 50 then s.aborts ++ text ∷ [] else s.aborts; timeout = s.timeout }
+abbrev pub waits : Run
+waits = record { sent = []; reach = Waits }
 
--- each abort string that equals this one is cleared
-abbrev pub without_abort : List ℕ → Settings → Settings
-without_abort text s = record { aborts = filter (λ (abort : List ℕ). not (pointwise nat_eq abort text)) s.aborts; timeout = s.timeout }
+abbrev pub ends : ChatEnd → Run
+ends how = record { sent = []; reach = Ends how }
 
-abbrev pub with_timeout : ℕ → Settings → Settings
-with_timeout seconds s = record { aborts = s.aborts; timeout = seconds * 1000 }
+-- a part, and the next one from the point behind it
+abbrev pub from_reach : List ℕ → Reach → (Point → Run) → Run
+from_reach sent (Behind p) next = record { sent = sent ++ (next p).sent; reach = (next p).reach }
+from_reach sent Waits next = record { sent = sent; reach = Waits }
+from_reach sent (Ends how) next = record { sent = sent; reach = Ends how }
 
--- whether nothing follows an expect for which it is late
-abbrev pub is_last_part : List Step → Bool
-is_last_part [] = true
-is_last_part (Met ∷ steps) = true
-is_last_part (step ∷ steps) = false
+abbrev pub and_then : Run → (Point → Run) → Run
+and_then run next = from_reach run.sent run.reach next
 
--- What follows a moment and the events after it.
-abbrev pub Following : Type 0
-Following = ℕ → List Event → Course
+-- the point of the event at this place
+abbrev pub point_at : List Event → ℕ → Point
+point_at later place = record { now = (event_at later place).at; has_sent = false; later = drop (suc place) later }
 
 -- with the next event
-abbrev pub at_next : Following → List Event → Course
-at_next rest [] = going
-at_next rest (event ∷ later) = rest event.at later
+abbrev pub with_next : List Event → (Point → Run) → Run
+with_next [] run = waits
+with_next (event ∷ later) run = run (record { now = event.at; has_sent = false; later = later })
 
--- with the event at this place, and the events after it
-abbrev pub at_place : ℕ → Following → List Event → Course
-at_place place rest later = rest (event_at later place).at (drop (suc place) later)
+abbrev pub sent_at : List ℕ → Point → Run
+sent_at octets p = record { sent = octets; reach = Behind (record p { has_sent = true }) }
 
--- where the first ending is found
-abbrev pub at_ending : Option (ℕ × Ending) → Following → Following → List Event → Course
-at_ending None found late later = going
-at_ending (Some (place, TimeHasCome)) found late later = at_place place late later
-at_ending (Some (place, Found)) found late later = at_place place found later
-at_ending (Some (place, AbortFound number)) found late later = ended (Aborted number)
+-- Octets are sent with this event, or with the next one, where others were sent with this. No octets are no send.
+abbrev pub send_octets : List ℕ → Point → Run
+send_octets [] p = done_at p
+send_octets (octet ∷ octets) p = if p.has_sent then with_next p.later (sent_at (octet ∷ octets)) else sent_at (octet ∷ octets) p
 
--- An expect, before whose first event these octets have come, ends at the first later event with which it may.
-abbrev pub awaiting : Awaited → List ℕ → Following → Following → List Event → Course
-awaiting x before found late later = at_ending (first_from (ending_at x before later) 0 (length later)) found late later
+-- What follows the first ending, if there is one. `late` is what follows where the time has come.
+abbrev pub behind_ending : Option (ℕ × Ending) → List Event → (Point → Run) → Run
+behind_ending None later late = waits
+behind_ending (Some (place, TimeHasCome)) later late = late (point_at later place)
+behind_ending (Some (place, Found)) later late = done_at (point_at later place)
+behind_ending (Some (place, AbortFound number)) later late = ends (Aborted number)
 
--- A delay ends at the first later event whose moment is this one or later.
-abbrev pub delaying : ℕ → Following → List Event → Course
-delaying until rest later = at_ending (first_from (delay_end_at until later) 0 (length later)) rest rest later
+-- A delay ends with the first later event whose moment is not before its end.
+abbrev pub wait_for : ℕ → Point → Run
+wait_for milliseconds p = behind_ending (first_from (delay_end_at (p.now + milliseconds) p.later) 0 (length p.later)) p.later done_at
 
--- What is sent and how it ends, from these steps on, at the event of this moment.
--- `met` says that the expect of this word was met: what is left of the word is passed over.
--- `has_sent` says that the call of this event has sent octets: the next octets, or the end, wait for the next event.
-abbrev pub course : List Step → Bool → Settings → ℕ → Bool → List Event → Course
-course [] met s now has_sent later = if has_sent then at_next (λ (next : ℕ) (more : List Event). ended Done) later else ended Done
-course (Met ∷ steps) met s now has_sent later = course steps false s now has_sent later
-course (step ∷ steps) true s now has_sent later = course steps true s now has_sent later
-course (Abort text ∷ steps) false s now has_sent later = course steps false (with_abort text s) now has_sent later
-course (ClearAbort text ∷ steps) false s now has_sent later = course steps false (without_abort text s) now has_sent later
-course (Timeout seconds ∷ steps) false s now has_sent later = course steps false (with_timeout seconds s) now has_sent later
-course (Expect [] ∷ steps) false s now has_sent later = course steps true s now has_sent later
-course (Expect (octet ∷ octets) ∷ steps) false s now has_sent later =
-    awaiting (record { text = octet ∷ octets; until = now + s.timeout; aborts = s.aborts }) []
-    (λ (found : ℕ) (more : List Event). course steps true s found false more)
-    (λ (late : ℕ) (more : List Event). if is_last_part steps then ended TimedOut else course steps false s late false more)
-    later
-course (Send [] ∷ steps) false s now has_sent later = course steps false s now has_sent later
-course (Send (octet ∷ octets) ∷ steps) false s now has_sent later =
-    if has_sent then at_next (λ (next : ℕ) (more : List Event). sending (octet ∷ octets) (course steps false s next true more)) later
-    else sending (octet ∷ octets) (course steps false s now true later)
-course (Pause milliseconds ∷ steps) false s now has_sent later =
-    delaying (now + milliseconds) (λ (next : ℕ) (more : List Event). course steps false s next false more) later
+abbrev pub send_part : SendPart → Point → Run
+send_part (Octets octets) p = send_octets octets p
+send_part (Delay milliseconds) p = wait_for milliseconds p
 
--- before any directive
-abbrev pub first_settings : ChatScript → Settings
-first_settings script = record { aborts = []; timeout = script.timeout_s * 1000 }
+-- a send: its parts, one after the other
+abbrev pub send_all : List SendPart → Point → Run
+send_all [] p = done_at p
+send_all (part ∷ parts) p = and_then (send_part part p) (send_all parts)
+
+-- A string that is expected from this event on is met with the first later event that ends it. An empty one is met at once.
+abbrev pub await_text : Settings → List ℕ → Point → (Point → Run) → Run
+await_text s [] p late = done_at p
+await_text s (octet ∷ octets) p late =
+    let x : Awaited = record { text = octet ∷ octets; until = p.now + s.timeout; aborts = s.aborts } in
+    behind_ending (first_from (ending_at x [] p.later) 0 (length p.later)) p.later late
+
+-- An expect: where a string is late, what is sent instead, and then the next string; where none is left, the script has timed out.
+abbrev pub expect_any : Settings → List ℕ → List Instead → Point → Run
+expect_any s text [] p = await_text s text p (λ (late : Point). ends TimedOut)
+expect_any s text (other ∷ others) p = await_text s text p (λ (late : Point). and_then (send_all other.send late) (expect_any s other.text others))
+
+-- The items, one after the other, behind these directives.
+abbrev pub run_items : ℕ → List Directive → List Item → Point → Run
+run_items timeout_s before [] p = done_at p
+run_items timeout_s before (Directs directive ∷ items) p = run_items timeout_s (before ++ directive ∷ []) items p
+run_items timeout_s before (Pair expected send ∷ items) p =
+    and_then (expect_any (settings_after timeout_s before) expected.text expected.instead p)
+    (λ (met : Point). and_then (send_all send met) (run_items timeout_s before items))
+
+-- Behind the last item the script has ended, with the next event where octets were sent with this one.
+abbrev pub end_at : Point → Run
+end_at p = if p.has_sent then with_next p.later (λ (next : Point). ends Done) else ends Done
+
+abbrev pub outcome_at : Reach → Option ChatEnd
+outcome_at (Behind p) = None
+outcome_at Waits = None
+outcome_at (Ends how) = Some how
 
 -- What a script has sent and how it has ended. The first event is the call that begins it.
+abbrev pub course_at : ChatScript → Point → Course
+course_at script p =
+    let run : Run = and_then (run_items script.timeout_s [] script.items p) end_at in
+    record { sent = run.sent; outcome = outcome_at run.reach }
+
 abbrev pub ChatOf : ChatScript → List Event → Course
-ChatOf script [] = going
-ChatOf script (begin ∷ later) = course script.steps false (first_settings script) begin.at false later
+ChatOf script [] = record { sent = []; outcome = None }
+ChatOf script (begin ∷ later) = course_at script (record { now = begin.at; has_sent = false; later = later })

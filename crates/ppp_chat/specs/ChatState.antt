@@ -1,8 +1,11 @@
 -- How a conversation stands for the calls that it heard since it was begun.
 use Rattle.std.specs.Prelude.{ℕ, ◌+◌, ◌≡◌, true, false, if◌then◌else◌, Option, None, Some, List, [], ◌∷◌, ◌++◌}
-use Rattle.ppp_chat.specs.ChatOf.{ChatScript, Course, Settings, going, ended, sending, at_next, awaiting, delaying, is_last_part, course, ChatOf}
+use Rattle.ppp_chat.specs.ChatOf.{Course, ChatOf}
+use Rattle.ppp_chat.specs.Course.{going, ended, sending, at_next, awaiting, delaying, is_last_part, course}
 use Rattle.ppp_chat.specs.Ending.{Awaited}
 use Rattle.ppp_chat.specs.Event.{Event}
+use Rattle.ppp_chat.specs.Script.{ChatScript}
+use Rattle.ppp_chat.specs.Settings.{Settings}
 use Rattle.ppp_chat.specs.declared.now.ChatEnd.{ChatEnd}
 use Rattle.ppp_chat.specs.declared.now.ChatEnd.TheVariants.{Done as IsDone, TimedOut as IsTimedOut, Aborted as IsAborted}
 use Rattle.ppp_chat.specs.declared.now.ChatNow.{ChatNow}
@@ -25,8 +28,11 @@ pub record ChatState : Type 0 where
   pub settings : Settings
   pub window : List ℕ
 
+abbrev pub HasBegun : Stage → Type 0
+HasBegun stage = stage ≡ NotBegun → ⊥
+
 abbrev pub IsBegun : ChatState → Type 0
-IsBegun chat = chat.stage ≡ NotBegun → ⊥
+IsBegun chat = HasBegun chat.stage
 
 -- what follows an expect that is met, and one that is late
 abbrev pub after_found : List Step → Settings → ℕ → List Event → Course

@@ -1,8 +1,10 @@
--- What one call does to a conversation that was begun.
+-- What one call does to a conversation that was begun: the code's own form of what follows an ending.
 use Rattle.std.specs.Prelude.{ℕ, ◌≡◌, Option, None, Some, List, [], ◌∷◌, ◌++◌}
-use Rattle.ppp_chat.specs.ChatOf.{Course, Settings, ended, sending}
+use Rattle.ppp_chat.specs.ChatOf.{Course}
+use Rattle.ppp_chat.specs.Course.{ended, sending}
 use Rattle.ppp_chat.specs.ChatState.{ChatState, IsBegun, after_found, after_late, rest_of, outcome_of, sent_by, answer}
 use Rattle.ppp_chat.specs.Event.{Event}
+use Rattle.ppp_chat.specs.Settings.{Settings}
 use Rattle.ppp_chat.specs.Texts.{latest}
 use Rattle.ppp_chat.specs.declared.ending.Ending.{Ending}
 use Rattle.ppp_chat.specs.declared.ending.Ending.TheVariants.{TimeHasCome, Found, AbortFound}

@@ -1,15 +1,20 @@
 -- What the calls of reading answer.
-use Rattle.std.specs.Prelude.{ℕ, ◌≡◌, Option, None, Some, Result, Ok, Err, List, ◌++◌, MatchResult}
-use Rattle.ppp_chat.specs.ChatOf.{ChatScript}
+use Rattle.std.specs.Prelude.{ℕ, ◌≡◌, ◌≤◌, IfSome, Option, None, Some, Result, Ok, Err, List, ◌++◌, MatchResult}
+use Rattle.ppp_chat.specs.Script.{ChatScript, Item}
 use Rattle.ppp_chat.specs.declared.fault.ScriptFault.{ScriptFault}
 use Rattle.ppp_chat.specs.declared.fault.ScriptFault.TheVariants.{BadEscape, NoMemory}
 use Rattle.ppp_chat.specs.declared.step.Step.{Step}
+use Rattle.ppp_chat.specs.Words.{word_of}
 
 -- The answer is what the words are, unless memory ran out.
-abbrev pub Gives : Result ChatScript ScriptFault → Result (List Step) ScriptFault → ℕ → Type 0
-Gives (Ok script) read timeout_s = read ≡ Ok script.steps × script.timeout_s ≡ timeout_s
+abbrev pub Gives : Result ChatScript ScriptFault → Result (List Item) ScriptFault → ℕ → Type 0
+Gives (Ok script) read timeout_s = read ≡ Ok script.items × script.timeout_s ≡ timeout_s
 Gives (Err NoMemory) read timeout_s = Unit {0}
 Gives (Err fault) read timeout_s = read ≡ Err fault
+
+-- The word that a fault names is one of so many words.
+abbrev pub NamesWord : ScriptFault → ℕ → Type 0
+NamesWord fault count = IfSome (word_of fault) (λ (number : ℕ). (1 ≤ number) × (number ≤ count))
 
 -- The steps of a word are added, unless it has a fault or memory ran out.
 abbrev pub Adds : List Step → List Step → Result (Unit {0}) ScriptFault → Result (List Step) ScriptFault → Type 0

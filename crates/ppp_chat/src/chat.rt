@@ -1,8 +1,12 @@
 ghost use Rattle.std.specs.Prelude.{◌≡◌, Bool, [], ◌∷◌, ◌++◌, List, Some, drop};
-ghost use Rattle.ppp_chat.specs.ChatOf.{course, is_last_part, first_settings};
+ghost use Rattle.ppp_chat.specs.ChatOf.{ChatOf};
 ghost use Rattle.ppp_chat.specs.ChatState.{ChatState, IsBegun, StandsFor, Answers, after_late, rest_of, outcome_of, sent_by, answer, answer_for};
+ghost use Rattle.ppp_chat.specs.Course.{course, is_last_part};
 ghost use Rattle.ppp_chat.specs.Event.{Event, tick_at, octet_at};
 ghost use Rattle.ppp_chat.specs.Hearing.{Goes, after_ending, rest_with};
+ghost use Rattle.ppp_chat.specs.Room.{AreSetAt};
+ghost use Rattle.ppp_chat.specs.Steps.{flat};
+ghost use Rattle.ppp_chat.specs.Talk.{told, behind};
 
 use crate::directives::Directives;
 use crate::ending::{Ending, ending_with, has_passed};
@@ -30,20 +34,24 @@ pub struct Chat {
 impl Model for Chat {
     ghost use Rattle.std.specs.Prelude.{drop};
     ghost use Rattle.ppp_chat.specs.ChatState.{ChatState};
-    ghost use Rattle.ppp_chat.specs.Texts.{settings_of};
+    ghost use Rattle.ppp_chat.specs.Room.{AreSetAt};
+    ghost use Rattle.ppp_chat.specs.Steps.{flat};
+    ghost use Rattle.ppp_chat.specs.Texts.{kept_settings};
 
     ghost Value = { ChatState };
 
     ghost view = { λ chat. record {
       script = chat.script;
       stage = chat.stage;
-      left = drop chat.place chat.script.steps;
-      settings = settings_of chat.script.steps chat.directives;
+      left = drop chat.place (flat chat.script.items);
+      settings = kept_settings (flat chat.script.items) chat.directives;
       window = chat.window;
     } };
+
+    ghost invariant = { λ chat. AreSetAt (flat chat.script.items) chat.place (kept_settings (flat chat.script.items) chat.directives).aborts };
 }
 
-/// Whether nothing follows, at this place, for an expect that is late.
+// Whether nothing follows, at this place, for an expect that is late.
 fn is_last_part(steps: &[Step], place: usize) -> bool
     ensures { result ≡ is_last_part (drop place steps.now) }
 {
@@ -54,7 +62,7 @@ fn is_last_part(steps: &[Step], place: usize) -> bool
     }
 }
 
-/// The answer of a script that has ended.
+// The answer of a script that has ended.
 fn answer_for(how: ChatEnd) -> ChatNow
     ensures { result ≡ answer_for (Some how) }
 {
@@ -65,7 +73,7 @@ fn answer_for(how: ChatEnd) -> ChatNow
     }
 }
 
-/// The answer of a call that sends these octets.
+// The answer of a call that sends these octets.
 fn answer(sent: SentOctets, stage: Stage) -> ChatNow
     ensures sent { sent_by result ≡ sent }
     ensures is { result ≡ answer sent (outcome_of stage) }
@@ -101,9 +109,13 @@ impl Chat {
         ensures script { self.new.script ≡ self.old.script }
         ensures stands { StandsFor self.new (tick_at now ∷ []) }
         ensures answers { Answers self.new.script [] (tick_at now) result }
+        ensures told { result ≡ told (tick_at now) (ChatOf self.new.script) }
+        ensures behind { rest_of self.new ≡ behind (tick_at now) (ChatOf self.new.script) }
         ensures stage { result ≡ answer (sent_by result) (outcome_of self.new.stage) }
     {
-        self.directives = Directives::new(self.script.timeout_s());
+        let directives = Directives::new(self.script.timeout_s());
+        self.directives = directives;
+        self.place = 0;
         self.go_on(0, false, now)
     }
 
@@ -114,6 +126,8 @@ impl Chat {
         ensures script { self.new.script ≡ self.old.script }
         ensures stands { (calls : List Event) → StandsFor self.old calls → StandsFor self.new (calls ++ octet_at octet now ∷ []) }
         ensures answers { (calls : List Event) → StandsFor self.old calls → Answers self.new.script calls (octet_at octet now) result }
+        ensures told { result ≡ told (octet_at octet now) (rest_of self.old) }
+        ensures behind { rest_of self.new ≡ behind (octet_at octet now) (rest_of self.old) }
 
         // Where the script has ended, the answer is the same again.
         ensures stage { result ≡ answer (sent_by result) (outcome_of self.new.stage) }
@@ -132,6 +146,8 @@ impl Chat {
         ensures script { self.new.script ≡ self.old.script }
         ensures stands { (calls : List Event) → StandsFor self.old calls → StandsFor self.new (calls ++ tick_at now ∷ []) }
         ensures answers { (calls : List Event) → StandsFor self.old calls → Answers self.new.script calls (tick_at now) result }
+        ensures told { result ≡ told (tick_at now) (rest_of self.old) }
+        ensures behind { rest_of self.new ≡ behind (tick_at now) (rest_of self.old) }
 
         // Where the script has ended, the answer is the same again.
         ensures stage { result ≡ answer (sent_by result) (outcome_of self.new.stage) }
@@ -143,7 +159,7 @@ impl Chat {
         })
     }
 
-    /// Hears of a call, after the script was begun.
+    // Hears of a call, after the script was begun.
     fn hear(&mut self, event: Event) -> ChatNow
         requires { IsBegun self.old }
         ensures script { self.new.script ≡ self.old.script }
@@ -159,10 +175,11 @@ impl Chat {
         }
     }
 
-    /// Does what follows at once, from the step at a place on.
+    // Does what follows at once, from the step at a place on.
     fn go_on(&mut self, place: usize, met: bool, now: u64) -> ChatNow
+        requires { AreSetAt (flat self.old.script.items) place self.old.settings.aborts }
         ensures script { self.new.script ≡ self.old.script }
-        ensures goes { Goes (course (drop place self.old.script.steps) met self.old.settings now Bool.false) self.new result }
+        ensures goes { Goes (course (drop place (flat self.old.script.items)) met self.old.settings now Bool.false) self.new result }
     {
         let halt = walk(self.script.steps(), place, met, now, &mut self.directives);
         self.place = halt.place;
@@ -171,7 +188,7 @@ impl Chat {
         answer(halt.sent, halt.stage)
     }
 
-    /// The script has ended.
+    // The script has ended.
     fn end(&mut self, how: ChatEnd) -> ChatNow
         ensures script { self.new.script ≡ self.old.script }
         ensures stage { self.new.stage ≡ Stage.Over how }
@@ -181,10 +198,11 @@ impl Chat {
         answer_for(how)
     }
 
-    /// An expect is late, and this is the place behind it.
+    // An expect is late, and this is the place behind it.
     fn go_late(&mut self, place: usize, now: u64) -> ChatNow
+        requires { AreSetAt (flat self.old.script.items) place self.old.settings.aborts }
         ensures script { self.new.script ≡ self.old.script }
-        ensures goes { Goes (after_late (drop place self.old.script.steps) self.old.settings now) self.new result }
+        ensures goes { Goes (after_late (drop place (flat self.old.script.items)) self.old.settings now) self.new result }
     {
         if is_last_part(self.script.steps(), place) {
             self.end(ChatEnd::TimedOut)
@@ -193,10 +211,11 @@ impl Chat {
         }
     }
 
-    /// An expect has ended, and this is the place behind it.
+    // An expect has ended, and this is the place behind it.
     fn follow(&mut self, place: usize, ending: Ending, now: u64) -> ChatNow
+        requires { AreSetAt (flat self.old.script.items) place self.old.settings.aborts }
         ensures script { self.new.script ≡ self.old.script }
-        ensures goes { Goes (after_ending ending (drop place self.old.script.steps) self.old.settings now) self.new result }
+        ensures goes { Goes (after_ending ending (drop place (flat self.old.script.items)) self.old.settings now) self.new result }
     {
         match ending {
             Ending::TimeHasCome => self.go_late(place, now),
@@ -205,7 +224,7 @@ impl Chat {
         }
     }
 
-    /// Hears of a call while an expect goes on.
+    // Hears of a call while an expect goes on.
     fn expect(&mut self, began: u64, event: Event) -> ChatNow
         requires { self.old.stage ≡ Stage.Expecting began }
         ensures script { self.new.script ≡ self.old.script }
@@ -233,7 +252,7 @@ impl Chat {
         }
     }
 
-    /// Hears of a call while a delay goes on.
+    // Hears of a call while a delay goes on.
     fn pause(&mut self, began: u64, event: Event) -> ChatNow
         requires { self.old.stage ≡ Stage.Pausing began }
         ensures script { self.new.script ≡ self.old.script }

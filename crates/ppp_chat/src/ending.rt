@@ -1,7 +1,7 @@
 ghost use Rattle.std.specs.Prelude.{◌≡◌, ◌+◌, nat_le};
 ghost use Rattle.ppp_chat.specs.ChatState.{awaited};
 ghost use Rattle.ppp_chat.specs.Ending.{ending};
-ghost use Rattle.ppp_chat.specs.Texts.{settings_of};
+ghost use Rattle.ppp_chat.specs.Texts.{kept_settings};
 
 use crate::directives::Directives;
 use crate::event::Event;
@@ -38,7 +38,7 @@ pub(crate) fn ending_with(
     octets: &[u8],
     event: Event,
 ) -> Option<Ending>
-    ensures { result ≡ ending (awaited text.now (settings_of steps.now directives.now) began) octets.now event }
+    ensures { result ≡ ending (awaited text.now (kept_settings steps.now directives.now) began) octets.now event }
 {
     if has_passed(began, directives.timeout_ms, event.at) {
         return Some(Ending::TimeHasCome);

@@ -13,9 +13,9 @@ pub enum ScriptFault {
     /// This word behind `TIMEOUT` is no number from 1 to 65535.
     #[error("word {0}: no number from 1 to 65535")]
     BadNumber(usize),
-    /// More than 50 abort strings are set at once.
-    #[error("more than 50 abort strings at once")]
-    TooManyAborts,
+    /// With this word, behind `ABORT`, more than 50 abort strings are set at once.
+    #[error("word {0}: more than 50 abort strings at once")]
+    TooManyAborts(usize),
     /// This word has more than 512 octets after its escapes.
     #[error("word {0}: more than 512 octets")]
     TooLong(usize),

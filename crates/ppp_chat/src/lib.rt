@@ -8,17 +8,18 @@
 #![tactic(auto)]
 
 mod chat;
+mod directive;
 mod directives;
 mod ending;
 mod event;
 mod fault;
-mod laws;
+mod keyword;
+pub mod laws;
 mod now;
 mod octets;
 mod parts;
 mod piece;
 mod pieces;
-mod place;
 mod script;
 mod send;
 mod stage;
@@ -30,8 +31,8 @@ mod window;
 mod word;
 
 pub use chat::Chat;
+pub use event::Event;
 pub use fault::ScriptFault;
-pub use laws::{a_busy_line, a_late_string, an_end_stays};
 pub use now::{ChatEnd, ChatNow};
 pub use octets::{MOST_SENT, SentOctets};
 pub use script::Script;

@@ -12,7 +12,7 @@ pub enum ChatEnd {
 }
 
 /// What a call of a conversation answers.
-#[derive(Debug, Drop)]
+#[derive(Debug, Drop, PartialEq, Eq)]
 pub enum ChatNow {
     /// The script waits.
     Going,

@@ -2,7 +2,8 @@ ghost use Rattle.std.specs.Prelude.{◌≡◌, ◌+◌, ◌<◌, ◌≤◌, ◌�
 ghost use Rattle.std.specs.List.{position, slice_split};
 ghost use Rattle.ppp_chat.specs.Pieces.{text_of};
 ghost use Rattle.ppp_chat.specs.Reading.{Spells};
-ghost use Rattle.ppp_chat.specs.Words.{all_pieces, fits, is_hyphen, part_steps, with_hyphens};
+ghost use Rattle.ppp_chat.specs.Steps.{flat_expect, steps_left};
+ghost use Rattle.ppp_chat.specs.Words.{all_pieces, expected_of, fits, is_hyphen, with_hyphens};
 
 use crate::fault::ScriptFault;
 use crate::pieces::Pieces;
@@ -28,14 +29,14 @@ impl Model for Parts {
     ghost view = { λ parts. parts.parts.items };
 }
 
-/// The place of the first hyphen.
+// The place of the first hyphen.
 fn first_hyphen(word: &[u8]) -> Option<usize>
     ensures { result ≡ position is_hyphen word.now }
 {
     word.iter().position(|octet| *octet == b'-')
 }
 
-/// The part up to the first hyphen, and what stands behind it, if there is one.
+// The part up to the first hyphen, and what stands behind it, if there is one.
 fn first_part(word: &[u8]) -> (&[u8], Option<&[u8]>)
     ensures parts { MatchOption result.1 (slice_split is_hyphen word.now ≡ result.0.now ∷ [])
         (λ behind. slice_split is_hyphen word.now ≡ result.0.now ∷ slice_split is_hyphen behind.now) }
@@ -47,7 +48,7 @@ fn first_part(word: &[u8]) -> (&[u8], Option<&[u8]>)
     }
 }
 
-/// Adds the steps of a part.
+// Adds the steps of a part.
 fn push_part(
     alloc: Global,
     steps: &mut Steps,
@@ -55,7 +56,7 @@ fn push_part(
     part: &Pieces,
 ) -> Result<(), ScriptFault>
     requires { length (text_of part.now) ≤ 512 }
-    ensures pushed { (left : List Pieces) → OnOk result (steps.old ++ part_steps is_sent (part.now ∷ left) ≡ steps.new ++ part_steps (not is_sent) left) }
+    ensures pushed { (left : List Pieces) → OnOk result (steps.old ++ steps_left is_sent (part.now ∷ left) ≡ steps.new ++ steps_left (not is_sent) left) }
     ensures memory { IfErr result (λ fault. fault ≡ ScriptFault.NoMemory) }
 {
     if is_sent {
@@ -65,9 +66,9 @@ fn push_part(
     }
 }
 
-/// Adds the end of a word that is expected. Where its last part is sent, an empty part follows.
+// Adds the end of a word that is expected. Where its last part is sent, an empty part follows.
 fn push_end(alloc: Global, steps: &mut Steps, is_sent: bool) -> Result<(), ScriptFault>
-    ensures pushed { OnOk result (steps.new ≡ steps.old ++ part_steps is_sent []) }
+    ensures pushed { OnOk result (steps.new ≡ steps.old ++ steps_left is_sent []) }
     ensures memory { IfErr result (λ fault. fault ≡ ScriptFault.NoMemory) }
 {
     if !is_sent {
@@ -113,7 +114,7 @@ impl Parts {
     /// Adds the steps of a word that is expected.
     pub fn push(&self, alloc: Global, steps: &mut Steps) -> Result<(), ScriptFault>
         requires { with_hyphens self.now ≤ 513 }
-        ensures pushed { OnOk result (steps.new ≡ steps.old ++ part_steps Bool.false self.now) }
+        ensures pushed { OnOk result (steps.new ≡ steps.old ++ flat_expect (expected_of self.now)) }
         ensures memory { IfErr result (λ fault. fault ≡ ScriptFault.NoMemory) }
     {
         let mut is_sent = false;

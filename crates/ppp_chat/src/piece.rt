@@ -33,21 +33,21 @@ impl Piece {
     }
 }
 
-/// Whether the octet is a digit of base 8.
+// Whether the octet is a digit of base 8.
 fn is_octal(octet: u8) -> bool
     ensures { result ≡ is_octal octet }
 {
     b'0' <= octet && octet <= b'7'
 }
 
-/// Whether the octet may stand behind a `^`.
+// Whether the octet may stand behind a `^`.
 fn is_control(octet: u8) -> bool
     ensures { result ≡ is_control octet }
 {
     (b'@' <= octet && octet <= b'_') || (b'a' <= octet && octet <= b'z')
 }
 
-/// The value of a digit of base 8.
+// The value of a digit of base 8.
 fn digit(octet: u8) -> u16
     requires { is_octal octet ≡ Bool.true }
     ensures value { result ≡ octet - 48 }
@@ -56,7 +56,7 @@ fn digit(octet: u8) -> u16
     u16::from(octet - b'0')
 }
 
-/// The octet of a number that so many digits spell.
+// The octet of a number that so many digits spell.
 fn octet_spelled(number: u16, more: usize) -> Option<Spelled>
     ensures value { result ≡ (if nat_le number 0xff then Some (record { piece = Piece.Octet number; more = more }) else None) }
     ensures more { IfSome result (λ spelled. spelled.more ≡ more) }
@@ -70,7 +70,7 @@ fn octet_spelled(number: u16, more: usize) -> Option<Spelled>
     })
 }
 
-/// What a digit of base 8, and those behind it up to three, stand for.
+// What a digit of base 8, and those behind it up to three, stand for.
 fn octal(first: u8, others: &[u8]) -> Option<Spelled>
     requires { is_octal first ≡ Bool.true }
     ensures value { result ≡ octal_spelled (octal_digits (first ∷ others.now)) }
@@ -93,14 +93,14 @@ fn octal(first: u8, others: &[u8]) -> Option<Spelled>
     octet_spelled(number * 8 + digit(*third), 3)
 }
 
-/// A piece that one octet behind the first spells.
+// A piece that one octet behind the first spells.
 fn two(piece: Piece) -> Option<Spelled>
     ensures { result ≡ Some (record { piece = piece; more = 1 }) }
 {
     Some(Spelled { piece, more: 1 })
 }
 
-/// What stands behind a backslash.
+// What stands behind a backslash.
 fn behind_backslash(octets: &[u8]) -> Option<Spelled>
     ensures value { result ≡ behind_backslash octets.now }
     ensures within { IfSome result (λ spelled. spelled.more ≤ length octets.now) }
@@ -127,7 +127,7 @@ fn behind_backslash(octets: &[u8]) -> Option<Spelled>
     }
 }
 
-/// What stands behind a `^`.
+// What stands behind a `^`.
 fn behind_caret(octets: &[u8]) -> Option<Spelled>
     ensures value { result ≡ behind_caret octets.now }
     ensures within { IfSome result (λ spelled. spelled.more ≤ length octets.now) }

@@ -3,8 +3,9 @@ ghost use Rattle.ppp_chat.specs.Pieces.{pieces_behind, pieces_of, unquoted, text
 ghost use Rattle.ppp_chat.specs.Reading.{Spells};
 
 use crate::fault::ScriptFault;
+use crate::octets::MOST_SENT;
 use crate::piece::{Piece, first_piece};
-use crate::text::{MOST_TEXT, Text};
+use crate::text::Text;
 use std::alloc::{AllocError, Global};
 use std::marker::Model;
 
@@ -23,7 +24,7 @@ impl Model for Pieces {
     ghost view = { λ pieces. pieces.pieces.items };
 }
 
-/// What a part is without two quote marks as the whole.
+// What a part is without two quote marks as the whole.
 fn unquoted(part: &[u8]) -> &[u8]
     ensures { result.now ≡ unquoted part.now }
 {
@@ -33,7 +34,7 @@ fn unquoted(part: &[u8]) -> &[u8]
     part
 }
 
-/// The piece that an octet begins, before these others, and what stands behind it.
+// The piece that an octet begins, before these others, and what stands behind it.
 fn take_piece(octet: u8, others: &[u8]) -> Option<(Piece, &[u8])>
     ensures read { MatchOption result (pieces_behind 0 (octet ∷ others.now) ≡ None)
         (λ found. pieces_behind 0 (octet ∷ others.now) ≡ with_piece found.0 (pieces_behind 0 found.1.now)) }
@@ -74,7 +75,7 @@ impl Pieces {
         self.pieces.iter().filter_map(|piece| piece.octet()).count()
     }
 
-    /// Their octets, as many as there are.
+    // Their octets, as many as there are.
     fn octets(&self, alloc: Global) -> Result<Vec<u8>, AllocError>
         ensures { IfOk result (λ octets. octets.items ≡ text_of self.now) }
     {
@@ -86,7 +87,7 @@ impl Pieces {
 
     /// Their octets.
     pub fn text(&self, alloc: Global) -> Result<Text, ScriptFault>
-        requires { length (text_of self.now) ≤ MOST_TEXT }
+        requires { length (text_of self.now) ≤ MOST_SENT }
         ensures text { IfOk result (λ text. text ≡ text_of self.now) }
         ensures memory { IfErr result (λ fault. fault ≡ ScriptFault.NoMemory) }
     {

@@ -1,6 +1,8 @@
-ghost use Rattle.std.specs.Prelude.{◌≡◌, [], ◌∷◌, ◌++◌, OnOk, IfErr};
+ghost use Rattle.std.specs.Prelude.{◌≡◌, [], ◌∷◌, ◌++◌, OnOk, IfErr, length};
+ghost use Rattle.ppp_chat.specs.Room.{AreFew, HasRoom};
+ghost use Rattle.ppp_chat.specs.Settings.{aborts_of};
+ghost use Rattle.ppp_chat.specs.Steps.{directives_in};
 ghost use Rattle.ppp_chat.specs.Texts.{AreShort, IsShort};
-ghost use Rattle.ppp_chat.specs.Words.{aborts_set};
 
 use crate::directives::Directives;
 use crate::fault::ScriptFault;
@@ -40,20 +42,23 @@ impl Steps {
 
     /// Adds a step at the end.
     pub fn push(&mut self, step: Step) -> Result<(), ScriptFault>
-        requires { IsShort step }
+        requires short { IsShort step }
+        requires room { HasRoom step (length (aborts_of (directives_in self.old))) }
         ensures pushed { OnOk result (self.new ≡ self.old ++ step ∷ []) }
         ensures memory { IfErr result (λ fault. fault ≡ ScriptFault.NoMemory) }
     {
         let place = self.steps.len();
         self.steps.push(step)?;
         let steps = self.steps.as_slice();
-        self.directives.obey(steps, place, &steps[place]);
+        if let Step::Direct(directive) = &steps[place] {
+            self.directives.obey(steps, place, directive);
+        }
         Ok(())
     }
 
     /// How many abort strings are set behind the steps.
     pub fn aborts_set(&self) -> usize
-        ensures { result ≡ aborts_set self.now }
+        ensures { result ≡ length (aborts_of (directives_in self.now)) }
     {
         self.directives.aborts.len()
     }
@@ -62,6 +67,7 @@ impl Steps {
     pub fn as_slice(&self) -> &[Step]
         ensures steps { result.now ≡ self.now }
         ensures short { AreShort self.now }
+        ensures few { AreFew self.now }
     {
         self.steps.as_slice()
     }

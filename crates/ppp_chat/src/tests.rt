@@ -20,15 +20,13 @@ enum Wanted {
 /// An octet that comes at a moment, or the moment alone, and the answer that is wanted.
 type Call = (Option<u8>, u64, Wanted);
 
-fn is_as_wanted(answer: &ChatNow, wanted: Wanted) -> bool {
-    match (answer, wanted) {
-        (ChatNow::Going, Wanted::Going) => true,
-        (ChatNow::Sent(sent), Wanted::Sent(octets)) => !sent.is_empty()
-            && sent.as_slice() == octets,
-        (ChatNow::Done, Wanted::Done) => true,
-        (ChatNow::TimedOut, Wanted::TimedOut) => true,
-        (ChatNow::Aborted(number), Wanted::Aborted(other)) => *number == other,
-        _ => false,
+fn answer(wanted: Wanted) -> ChatNow {
+    match wanted {
+        Wanted::Going => ChatNow::Going,
+        Wanted::Sent(octets) => ChatNow::Sent(SentOctets::from_octets(octets).unwrap_or_default()),
+        Wanted::Done => ChatNow::Done,
+        Wanted::TimedOut => ChatNow::TimedOut,
+        Wanted::Aborted(number) => ChatNow::Aborted(number),
     }
 }
 
@@ -49,16 +47,16 @@ fn hear(rt: &impl Abort, chat: &mut Chat, calls: &[Call])
     ensures { IsBegun chat.new }
 {
     'calls: for (octet, now, wanted) in calls {
-        let answer = match *octet {
+        let answered = match *octet {
             Some(octet) => chat.octet(octet, *now),
             None => chat.tick(*now),
         };
-        assert!(rt; is_as_wanted(&answer, *wanted));
+        assert_eq!(rt; answered, answer(*wanted));
     }
 }
 
 fn run(rt: &impl Abort, chat: &mut Chat, begun: Wanted, calls: &[Call]) {
-    assert!(rt; is_as_wanted(&chat.begin(0), begun));
+    assert_eq!(rt; chat.begin(0), answer(begun));
     hear(rt, chat, calls);
 }
 
@@ -132,6 +130,97 @@ fn a_cleared_string_is_not_counted(rt: HostRuntime) -> Result<(), Fail> {
 }
 
 #[test]
+fn other_rows(rt: HostRuntime) -> Result<(), Fail> {
+    let rows: [(&[&[u8]], Wanted, &[Call]); 10] = [
+        (
+            &[b"''", b"A", b"''", b"B", b"OK", b"''"],
+            Wanted::Sent(b"A\r"),
+            &[
+                (Some(b'O'), 100, Wanted::Sent(b"B\r")),
+                (Some(b'K'), 101, Wanted::Going),
+                (None, 45_099, Wanted::Going),
+                (None, 45_100, Wanted::TimedOut),
+            ],
+        ),
+        (
+            &[
+                b"TIMEOUT", b"1", b"ABORT", b"B", b"ABORT", b"AB", b"AB", b"''", b"X", b"''",
+            ],
+            Wanted::Going,
+            &[
+                (Some(b'A'), 1, Wanted::Going),
+                (Some(b'B'), 2, Wanted::Sent(b"\r")),
+                (Some(b'A'), 3, Wanted::Going),
+                (Some(b'B'), 4, Wanted::Aborted(1)),
+            ],
+        ),
+        (
+            &[b"TIMEOUT", b"1", b"A", b"''"],
+            Wanted::Going,
+            &[(Some(b'A'), 1000, Wanted::TimedOut)],
+        ),
+        (
+            &[b"''", b"\\d\\dA"],
+            Wanted::Going,
+            &[
+                (None, 1500, Wanted::Going),
+                (None, 2499, Wanted::Going),
+                (None, 2500, Wanted::Sent(b"A\r")),
+                (None, 2501, Wanted::Done),
+            ],
+        ),
+        (
+            &[b"''", b"A", b"''", b"\\pB"],
+            Wanted::Sent(b"A\r"),
+            &[(None, 99, Wanted::Going), (None, 100, Wanted::Sent(b"B\r"))],
+        ),
+        (
+            &[b"OK-AT", b"ATD"],
+            Wanted::Going,
+            &[
+                (None, 45_000, Wanted::Sent(b"AT\r")),
+                (None, 45_001, Wanted::Sent(b"ATD\r")),
+                (None, 45_002, Wanted::Done),
+            ],
+        ),
+        (
+            &[b"ABORT", b"''", b"A", b"''"],
+            Wanted::Going,
+            &[(Some(b'B'), 1, Wanted::Aborted(1))],
+        ),
+        (
+            &[
+                b"ABORT",
+                b"A",
+                b"CLR_ABORT",
+                b"A",
+                b"ABORT",
+                b"A",
+                b"X",
+                b"''",
+            ],
+            Wanted::Going,
+            &[(Some(b'A'), 1, Wanted::Aborted(1))],
+        ),
+        (
+            &[b"''", b"AT", b"ABORT"],
+            Wanted::Sent(b"AT\r"),
+            &[(None, 1, Wanted::Done)],
+        ),
+        (
+            &[b"TIMEOUT", b"0000000001", b"A", b"''"],
+            Wanted::Going,
+            &[(None, 999, Wanted::Going), (None, 1000, Wanted::TimedOut)],
+        ),
+    ];
+    for (words, begun, calls) in rows {
+        let mut chat = Chat::new(script(rt.alloc(), words)?);
+        run(&rt, &mut chat, begun, calls);
+    }
+    Ok(())
+}
+
+#[test]
 fn octets_that_are_sent_become_a_vector(rt: HostRuntime) -> Result<(), Fail> {
     let words: [&[u8]; 2] = [b"''", b"^C\\101\\c"];
     let mut chat = Chat::new(script(rt.alloc(), &words)?);
@@ -149,7 +238,13 @@ fn each_fault_has_its_word(rt: HostRuntime) -> Result<(), Fail> {
     let escape: [&[u8]; 2] = [b"''", b"\\z"];
     let number: [&[u8]; 2] = [b"TIMEOUT", b"65536"];
     let too_long: [&[u8]; 1] = [&long];
-    let rows: [(&[&[u8]], ScriptFault); 3] = [
+    let digits: [&[u8]; 2] = [b"TIMEOUT", b"00000000001"];
+    let part: [&[u8]; 1] = [b"a-\\z-b"];
+    let octal: [&[u8]; 2] = [b"''", b"\\400"];
+    let rows: [(&[&[u8]], ScriptFault); 6] = [
+        (&digits, ScriptFault::BadNumber(2)),
+        (&part, ScriptFault::BadEscape(1)),
+        (&octal, ScriptFault::BadEscape(2)),
         (&escape, ScriptFault::BadEscape(2)),
         (&number, ScriptFault::BadNumber(2)),
         (&too_long, ScriptFault::TooLong(1)),
@@ -171,7 +266,7 @@ fn a_fifty_first_abort_string_is_refused(rt: HostRuntime) -> Result<(), Fail> {
         words.push(b"A".to_vec(rt.alloc())?)?;
     }
     let whole = Script::read(rt.alloc(), words.as_slice(), 45);
-    assert!(rt; matches!(whole, Err(ScriptFault::TooManyAborts)));
+    assert!(rt; matches!(whole, Err(ScriptFault::TooManyAborts(102))));
     let shorter = Script::read(rt.alloc(), &words.as_slice()[..1], 45);
     assert!(rt; shorter.is_ok());
     Ok(())

@@ -1,11 +1,9 @@
 ghost use Rattle.std.specs.Prelude.{◌≡◌, ◌≤◌, ◌==◌, length};
 
+use crate::octets::MOST_SENT;
 use std::marker::Model;
 
-/// The most octets of a text: a string of 512 and the return behind one that is sent.
-pub(crate) const MOST_TEXT: usize = 513;
-
-/// A string of a script, read once. Contracts see it as its list.
+/// A string of a script, read once, or octets that are sent. It is as long as it is, and contracts see it as its list.
 #[derive(Drop)]
 pub(crate) struct Text {
     octets: Vec<u8>,
@@ -24,7 +22,7 @@ impl Model for Text {
 impl Text {
     /// These octets.
     pub fn new(octets: Vec<u8>) -> Text
-        requires { length octets.items ≤ MOST_TEXT }
+        requires { length octets.items ≤ MOST_SENT }
         ensures { result ≡ octets.items }
     {
         Text { octets }
@@ -40,7 +38,7 @@ impl Text {
     /// The octets.
     pub fn as_slice(&self) -> &[u8]
         ensures octets { result.now ≡ self.now }
-        ensures within { length result.now ≤ MOST_TEXT }
+        ensures within { length result.now ≤ MOST_SENT }
     {
         self.octets.as_slice()
     }

@@ -1,9 +1,10 @@
-ghost use Rattle.std.specs.Prelude.{◌≡◌, ℕ, Bool, [], List, Some, IfSome, drop, slice_get};
-ghost use Rattle.ppp_chat.specs.ChatOf.{course, sending};
-ghost use Rattle.ppp_chat.specs.ChatState.{rest};
+ghost use Rattle.std.specs.Prelude.{◌≡◌, ℕ, Bool, [], List, Some, IfSome, drop, slice_get, length};
+ghost use Rattle.ppp_chat.specs.ChatState.{HasBegun, rest};
+ghost use Rattle.ppp_chat.specs.Course.{course, sending};
 ghost use Rattle.ppp_chat.specs.Event.{Event};
-ghost use Rattle.ppp_chat.specs.Texts.{settings_of};
-ghost use Rattle.ppp_chat.specs.Walking.{Takes, IsWait, stage_at_end};
+ghost use Rattle.ppp_chat.specs.Room.{AreFew, AreSetAt, HasRoom, settings_with};
+ghost use Rattle.ppp_chat.specs.Texts.{kept_settings};
+ghost use Rattle.ppp_chat.specs.Walking.{Takes, stage_at_end};
 
 use crate::directives::Directives;
 use crate::now::ChatEnd;
@@ -30,62 +31,52 @@ pub(crate) struct Halt {
 }
 
 impl Turn {
-    /// Sends the octets, where there are some, or waits for the next call, where this one has sent others.
-    fn send(&mut self, octets: &Text) -> Option<Stage>
-        requires { self.old.met ≡ Bool.false }
-        ensures takes { (steps : List Step) (now : ℕ) (d : Directives) → Takes steps (Step.Send octets.now) now d d self.old self.new result }
-        ensures waits { IfSome result IsWait }
+    // Waits for the string. An empty one is met at once.
+    fn expect(&mut self, text: &Text, now: u64) -> Option<Stage>
+        ensures takes { (steps : List Step) (d : Directives) → Takes steps (Step.Expect text.now) now d d self.old self.new result }
+        ensures waits { IfSome result HasBegun }
     {
+        if self.met {
+            return None;
+        }
+        if text.is_empty() {
+            self.met = true;
+            return None;
+        }
+        Some(Stage::Expecting(now))
+    }
+
+    // Sends the octets, where there are some, or waits for the next call, where this one has sent others.
+    fn send(&mut self, octets: &Text) -> Option<Stage>
+        ensures takes { (steps : List Step) (now : ℕ) (d : Directives) → Takes steps (Step.Send octets.now) now d d self.old self.new result }
+        ensures waits { IfSome result HasBegun }
+    {
+        if self.met {
+            return None;
+        }
         if octets.is_empty() {
             return None;
         }
         if !self.sent.is_empty() {
             return Some(Stage::Waiting);
         }
-        self.sent = SentOctets::of(octets);
+        self.sent.append(octets.as_slice());
         None
     }
-}
 
-/// Does a step that is not passed over, or stops before it.
-fn act(
-    steps: &[Step],
-    place: usize,
-    step: &Step,
-    now: u64,
-    directives: &mut Directives,
-    turn: &mut Turn,
-) -> Option<Stage>
-    requires place { slice_get steps.now place ≡ Some step.now }
-    requires met { turn.old.met ≡ Bool.false }
-    ensures takes { Takes steps.now step.now now directives.old directives.new turn.old turn.new result }
-    ensures waits { IfSome result IsWait }
-{
-    match step {
-        Step::Abort(_) => {
-            directives.set_abort(place);
-            None
+    // Waits for the end of a delay.
+    fn pause(&self, now: u64) -> Option<Stage>
+        ensures takes { (milliseconds : ℕ) (steps : List Step) (d : Directives) → Takes steps (Step.Pause milliseconds) now d d self.now self.now result }
+        ensures waits { IfSome result HasBegun }
+    {
+        if self.met {
+            return None;
         }
-        Step::ClearAbort(text) => {
-            directives.clear_abort(steps, text.as_slice());
-            None
-        }
-        Step::Timeout(seconds) => {
-            directives.set_timeout(*seconds);
-            None
-        }
-        Step::Expect(text) if text.is_empty() => {
-            turn.met = true;
-            None
-        }
-        Step::Expect(_) => Some(Stage::Expecting(now)),
-        Step::Met => None,
-        Step::Send(octets) => turn.send(octets),
-        Step::Pause(_) => Some(Stage::Pausing(now)),
+        Some(Stage::Pausing(now))
     }
 }
 
-/// Does the step at a place, or stops before it.
+// Does the step at a place, or stops before it.
 fn take(
     steps: &[Step],
     place: usize,
@@ -94,24 +85,32 @@ fn take(
     directives: &mut Directives,
     turn: &mut Turn,
 ) -> Option<Stage>
-    requires { slice_get steps.now place ≡ Some step.now }
+    requires place { slice_get steps.now place ≡ Some step.now }
+    requires room { HasRoom step.now (length directives.old.aborts.items) }
     ensures takes { Takes steps.now step.now now directives.old directives.new turn.old turn.new result }
-    ensures waits { IfSome result IsWait }
+    ensures waits { IfSome result HasBegun }
+    ensures set { kept_settings steps.now directives.new ≡ settings_with step.now (kept_settings steps.now directives.old) }
+    ensures stops { IfSome result (λ _. directives.new ≡ directives.old) }
 {
-    if let Step::Met = step {
-        turn.met = false;
-        return None;
+    match step {
+        Step::Direct(directive) => {
+            directives.obey(steps, place, directive);
+            None
+        }
+        Step::Met => {
+            turn.met = false;
+            None
+        }
+        Step::Expect(text) => turn.expect(text, now),
+        Step::Send(octets) => turn.send(octets),
+        Step::Pause(_) => turn.pause(now),
     }
-    if turn.met {
-        return None;
-    }
-    act(steps, place, step, now, directives, turn)
 }
 
-/// What a call waits for where no step is left.
+// What a call waits for where no step is left.
 fn stage_at_end(sent: &SentOctets) -> Stage
     ensures value { result ≡ stage_at_end sent.now }
-    ensures waits { IsWait result }
+    ensures waits { HasBegun result }
 {
     if sent.is_empty() {
         Stage::Over(ChatEnd::Done)
@@ -128,9 +127,12 @@ pub(crate) fn walk(
     now: u64,
     directives: &mut Directives,
 ) -> Halt
-    ensures goes { (later : List Event) → course (drop from steps.now) met (settings_of steps.now directives.old) now Bool.false later
-        ≡ sending result.sent (rest result.stage (drop result.place steps.now) (settings_of steps.now directives.new) [] later) }
-    ensures waits { IsWait result.stage }
+    requires few { AreFew steps.now }
+    requires set { AreSetAt steps.now from (kept_settings steps.now directives.old).aborts }
+    ensures goes { (later : List Event) → course (drop from steps.now) met (kept_settings steps.now directives.old) now Bool.false later
+        ≡ sending result.sent (rest result.stage (drop result.place steps.now) (kept_settings steps.now directives.new) [] later) }
+    ensures waits { HasBegun result.stage }
+    ensures set { AreSetAt steps.now result.place (kept_settings steps.now directives.new).aborts }
 {
     let mut turn = Turn {
         met,

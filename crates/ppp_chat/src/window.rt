@@ -38,7 +38,7 @@ impl Window {
         self.octets.clear();
     }
 
-    /// Takes an octet. Where there is no room, the oldest one goes.
+    // Takes an octet. Where there is no room, the oldest one goes.
     fn push(&mut self, octet: u8)
         ensures { self.new ≡ latest (self.old ++ octet ∷ []) }
     {
