@@ -1,5 +1,6 @@
 -- The answer to a Configure-Request, from what is thought of each of its options (RFC 1661, sections 5.2 to 5.4).
 use Rattle.std.specs.Prelude.{ℕ, ◌+◌, ◌-◌, nat_le, Bool, true, false, if◌then◌else◌, List, [], ◌∷◌, length, filter, map}
+use Rattle.ppp_packet.specs.declared.body.TheConstants.{MOST_BODY}
 use Rattle.ppp_packet.specs.OptionsOf.{Item, item}
 
 -- An option is acknowledged, or named with other data, or rejected.
@@ -47,7 +48,7 @@ pub data Answer : Type 0 where
 abbrev pub named_or : Bool → List Item → List Item → Answer
 named_or spent [] values = acknowledges
 named_or true (i ∷ items) values = refuses (i ∷ items)
-named_or false (i ∷ items) values = suggests (fitting 1504 values)
+named_or false (i ∷ items) values = suggests (fitting MOST_BODY values)
 
 abbrev pub rejected_or : List Item → Answer → Answer
 rejected_or [] other = other

@@ -1,11 +1,12 @@
 -- A request's options as far as they have been judged.
 use Rattle.std.specs.Prelude.{◌+◌, ◌-◌, nat_le, not, ◌&&◌, Bool, true, false, if◌then◌else◌, List, [], ◌∷◌, ◌++◌, length}
+use Rattle.ppp_packet.specs.declared.body.TheConstants.{MOST_BODY}
 use Rattle.ppp_packet.specs.OptionsOf.{Item, item, laid}
 use Rattle.ppp_control.specs.declared.sorting.Sorting.{Sorting}
 use Rattle.ppp_control.specs.Answers.{Judgement, acks, names, rejects, Answer, acknowledges, suggests, refuses, rejected_or}
 
 abbrev pub renamed_with : Sorting → Item → Sorting
-renamed_with s i = if not s.is_full && nat_le (length i.body + 2) (1504 - length (laid s.renamed)) then record s { renamed = s.renamed ++ i ∷ [] } else record s { is_full = true }
+renamed_with s i = if not s.is_full && nat_le (length i.body + 2) (MOST_BODY - length (laid s.renamed)) then record s { renamed = s.renamed ++ i ∷ [] } else record s { is_full = true }
 
 -- after one more option, of which this is thought
 abbrev pub sorted_with : Sorting → Item → Judgement → Sorting

@@ -4,7 +4,7 @@ ghost use Rattle.ppp_control.specs.Judging.{judgement_of, answer_of, IsShort};
 ghost use Rattle.ppp_control.specs.Sorting.{sorted_with, renamed_with, sorted_answer};
 
 use crate::judging::{Judged, Verdict};
-use ppp_packet::OptionList;
+use ppp_packet::{MOST_BODY, OptionList};
 
 /// The options of a request as far as they have been judged.
 #[derive(Drop)]
@@ -34,8 +34,8 @@ impl Sorting {
     pub(crate) fn take(&mut self, kind: u8, body: &[u8], judged: Judged<'_>)
         requires short { length body.now ≤ 253 }
         requires value { IsShort judged }
-        requires rejected { length (laid self.old.rejected) + (length body.now + 2) ≤ 1504 }
-        requires named { length (laid self.old.named) + (length body.now + 2) ≤ 1504 }
+        requires rejected { length (laid self.old.rejected) + (length body.now + 2) ≤ MOST_BODY }
+        requires named { length (laid self.old.named) + (length body.now + 2) ≤ MOST_BODY }
         ensures { self.new ≡ sorted_with self.old (item kind body.now) (judgement_of judged.entry) }
     {
         match judged {
@@ -54,7 +54,7 @@ impl Sorting {
         requires short { length value.now ≤ 253 }
         ensures { self.new ≡ renamed_with self.old (item kind value.now) }
     {
-        let room = 1504 - self.renamed.size();
+        let room = MOST_BODY - self.renamed.size();
         if !self.is_full && value.len() + 2 <= room {
             self.renamed.push(kind, value);
         } else {
