@@ -25,7 +25,7 @@ use Rattle.ppp_lcp.specs.Ours.{asks, after_nak, after_reject, skipped, word_of, 
 use Rattle.ppp_lcp.specs.Verdict.{verdict_where, event_on}
 use Rattle.ppp_lcp.specs.Magic.{has_magic, cut_packet, cut_information}
 use Rattle.ppp_lcp.specs.Table.{number2, number4}
-use Rattle.ppp_lcp.specs.Last.{last_body, number2_or, number4_or, method_in, agreed_by}
+use Rattle.ppp_lcp.specs.Last.{last_body, number2_or, method_in, agreed_by}
 use Rattle.ppp_lcp.specs.Out.{out_of, no_event}
 use Rattle.ppp_packet.specs.declared.agreed.Agreed.{Agreed}
 use Rattle.ppp_packet.specs.declared.agreed.Method.{Method}
@@ -48,9 +48,13 @@ is_answer l p = l.core.fsm.state == 9 && p.code == ECHO_REPLY && nat_le 4 (lengt
 abbrev pub with_reply : Lcp → Packet → Lcp
 with_reply l p = record l { unanswered = if is_answer l p then 0 else l.unanswered }
 
--- Requests in a row with our magic number, up to 255.
+-- Requests in a row with our magic number, up to 255. A magic number has four octets (RFC 1661, section 6.4).
+abbrev pub is_four : ℕ → Option (List ℕ) → Bool
+is_four magic None = false
+is_four magic (Some body) = length body == 4 && number4 body == magic
+
 abbrev pub is_loop : ℕ → List Item → Bool
-is_loop magic items = not (magic == 0) && number4_or (last_body 5 items) 0 == magic
+is_loop magic items = not (magic == 0) && is_four magic (last_body 5 items)
 
 abbrev pub with_loops : Lcp → List Item → Lcp
 with_loops l items = record l { loops = if is_loop l.ours.magic items then min (l.loops + 1) 255 else 0 }

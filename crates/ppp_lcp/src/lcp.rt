@@ -1,9 +1,10 @@
 ghost use Rattle.std.specs.Prelude.{◌≡◌, ◌+◌, ◌^◌, ◌≤◌, length, [], ◌∷◌, true, false, ℕ, List};
 ghost use Rattle.ppp_lcp.specs.Verdict.{event_on};
-ghost use Rattle.ppp_lcp.specs.Negotiating.{is_proved_by, begins, names_kind, sends_verdict};
+ghost use Rattle.ppp_lcp.specs.Negotiating.{is_four, is_proved_by, begins, names_kind, sends_verdict};
+ghost use Rattle.std.specs.Option.{option_copied};
 
 use crate::judge::{number2, number4, verdict_where};
-use crate::last::{agreed_by, last_body, method_in, number2_or, number4_or};
+use crate::last::{agreed_by, last_body, method_in, number2_or};
 use crate::magic::{cut, cut_information, names_magic};
 use crate::ours::Ours;
 use crate::out::LcpOut;
@@ -41,6 +42,16 @@ fn is_proved_by(protocol: u16, method: Option<Method>) -> bool
     match method {
         Some(Method::Pap) => protocol == protocol::PAP,
         Some(Method::Chap) => protocol == protocol::CHAP,
+        None => false,
+    }
+}
+
+// Whether an option's data, if there is one, are this number of four octets.
+fn is_four(number: u32, body: Option<&[u8]>) -> bool
+    ensures { result ≡ is_four number (option_copied body.entry) }
+{
+    match body {
+        Some(body) => body.len() == 4 && number4(body) == number,
         None => false,
     }
 }
@@ -381,7 +392,7 @@ impl Lcp {
     fn is_loop(&self, items: &OptionList) -> bool
         ensures { result ≡ is_loop self.now.ours.magic items.now }
     {
-        self.ours.magic != 0 && number4_or(last_body(items, 5), 0) == self.ours.magic
+        self.ours.magic != 0 && is_four(self.ours.magic, last_body(items, 5))
     }
 
     // The echo timer.

@@ -128,3 +128,14 @@ fn answers_by_the_table(rt: HostRuntime) -> Result<(), Fail> {
         _ => Err("no Nak")?,
     }
 }
+
+#[test]
+fn our_own_magic_number(rt: HostRuntime) -> Result<(), Fail> {
+    let mut lcp = starting();
+    let _ = lcp.up(0);
+    let long = [1, 7, 0, 0x0b, 5, 7, 0x11, 0x22, 0x33, 0x44, 0];
+    assert_eq!(rt; heard(&mut lcp, &long, 1)?.loops, 0);
+    let own = [1, 8, 0, 0x0a, 5, 6, 0x11, 0x22, 0x33, 0x44];
+    assert_eq!(rt; heard(&mut lcp, &own, 2)?.loops, 1);
+    Ok(())
+}
