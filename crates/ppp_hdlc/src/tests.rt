@@ -106,25 +106,29 @@ fn cut_anywhere(rt: HostRuntime) -> Result<(), Fail> {
     Ok(())
 }
 
-/// Feeds a stream in two pieces, by spans, and looks at each octet's answer.
-fn feed_cut(
+/// Feeds a piece of a stream by spans, and looks at the answer at each of its octets.
+fn feed_piece(
     rt: &impl Abort,
     deframer: &mut Deframer,
-    octets: &[u8],
-    cut: usize,
+    piece: &[u8],
+    from: usize,
     answers: &[(usize, Wanted)],
 ) {
-    let mut at = 0;
-    while at < octets.len() {
-        let end = if at < cut { cut } else { octets.len() };
-        let span = deframer.feed_span(&octets[at..end]);
-        assert!(rt; 0 < span.used && span.used <= end - at);
-        for place in at..at + span.used - 1 {
+    let mut rest = piece;
+    for _ in 0..piece.len() {
+        if rest.is_empty() {
+            break;
+        }
+        let span = deframer.feed_span(rest);
+        let first = from.saturating_add(piece.len().saturating_sub(rest.len()));
+        let last = first.saturating_add(span.used.saturating_sub(1));
+        for place in first..last {
             assert!(rt; is_as_wanted(&Heard::Nothing, wanted_at(answers, place)));
         }
-        at += span.used;
-        assert!(rt; is_as_wanted(&span.heard, wanted_at(answers, at - 1)));
+        assert!(rt; is_as_wanted(&span.heard, wanted_at(answers, last)));
+        rest = &rest[span.used..];
     }
+    assert!(rt; rest.is_empty());
 }
 
 #[test]
@@ -141,7 +145,8 @@ fn spans_cut_anywhere(rt: HostRuntime) -> Result<(), Fail> {
         for cut in 0..octets.len() {
             deframer.restart();
             deframer.set_map(0);
-            feed_cut(&rt, &mut deframer, octets, cut, answers);
+            feed_piece(&rt, &mut deframer, &octets[..cut], 0, answers);
+            feed_piece(&rt, &mut deframer, &octets[cut..], cut, answers);
         }
     }
     Ok(())
