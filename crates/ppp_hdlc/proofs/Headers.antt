@@ -3,6 +3,7 @@ use Rattle.std.proofs.Common.{◌≡◌, ◌≢◌, ℕ, ◌+◌, ◌-◌, ◌*�
 use Rattle.std.specs.Prelude.{◌&&◌}
 use Rattle.std.proofs.Math.Seq.{take-append_seam}
 use Rattle.std.proofs.lemmas.Bool.Decides.{nat_tests}
+use Rattle.ppp_base.specs.declared.protocol.TheConstants.{LCP}
 use Rattle.ppp_base.specs.declared.send_settings.SendSettings.{SendSettings}
 use Rattle.ppp_hdlc.specs.Frames.{content, protocol_of, without_address, without_fcs}
 use Rattle.ppp_hdlc.specs.Encoding.{address, protocol_field, body, with_fcs, fcs_octets}
@@ -53,7 +54,7 @@ pub content-back : (settings : SendSettings) (protocol : ℕ) (information : Lis
 unfolding body
 content-back settings protocol information framable =
     rw (without-with ((address settings protocol ++ protocol_field settings protocol) ++ information))
-    (elim (bool_cases (settings.acfc && not (protocol == 0xc021))) [
+    (elim (bool_cases (settings.acfc && not (protocol == LCP))) [
       | inl none ↦ rw none (rw (field_alone settings protocol information framable) (field_found settings protocol information framable))
       | inr some ↦ rw some (field_found settings protocol information framable)
     ])

@@ -2,6 +2,7 @@
 use Rattle.std.proofs.Common.{◌≡◌, ℕ, ◌+◌, ◌≤◌, ◌==◌, not, nat_lt, List, [], ◌∷◌, ◌++◌, length, map, refl, ap, ◌∙◌, arith, inl, inr, length-append, lit≤}
 use Rattle.std.specs.Prelude.{◌&&◌}
 use Rattle.std.specs.List.{AllByRecursion}
+use Rattle.ppp_base.specs.declared.protocol.TheConstants.{LCP}
 use Rattle.ppp_base.specs.declared.send_settings.SendSettings.{SendSettings}
 use Rattle.ppp_hdlc.specs.Frames.{Received, stamped}
 use Rattle.ppp_hdlc.specs.Encoding.{encoding, settings_for, with_fcs, body, fcs_octets, address, protocol_field}
@@ -35,7 +36,7 @@ record Front (settings : SendSettings) (protocol : ℕ) : Type 0 where
 
 front : (settings : SendSettings) (protocol : ℕ) → Front settings protocol
 front settings protocol =
-    elim (bool_cases (settings.acfc && not (protocol == 0xc021))) [
+    elim (bool_cases (settings.acfc && not (protocol == LCP))) [
       | inl none ↦
           elim (bool_cases (settings.pfc && nat_lt protocol 0x100)) [
             | inl short ↦ record { some = rw (none, short) (lit≤ tt); few = rw (none, short) (lit≤ tt) }

@@ -2,7 +2,7 @@
 use Rattle.std.proofs.Common.{◌≡◌, ℕ, ◌==◌, true, false, nat_lt, List, length, refl, sym, ap, ◌∙◌, arith, inl, inr, Option, Some, None}
 use Rattle.std.proofs.lemmas.Bool.{eq-eqb, eqb-true, cases_lt}
 use Rattle.std.proofs.lemmas.Bool.Decides.{nat_tests}
-use Rattle.ppp_hdlc.specs.declared.reason.Reason.TheVariants.{Short, BadFcs}
+use Rattle.ppp_hdlc.specs.declared.fault.FrameFault.TheVariants.{Short, BadFcs}
 use Rattle.ppp_hdlc.specs.declared.heard.Heard.TheVariants.{Frame, Dropped}
 use Rattle.ppp_hdlc.specs.Residue.{Residue, good_residue}
 use Rattle.ppp_hdlc.specs.Frames.{answer, unescaped, ends_escaping, content, framed}

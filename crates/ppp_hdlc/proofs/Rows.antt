@@ -1,6 +1,6 @@
 -- The worked rows, of the definitions alone: no code has a part in them.
 use Rattle.std.proofs.Common.{◌≡◌, ℕ, zero, suc, ◌+◌, ◌<◌, true, false, List, [], ◌∷◌, take, drop, refl, arith, lit≤}
-use Rattle.ppp_hdlc.specs.declared.reason.Reason.TheVariants.{Aborted, Short, BadFcs}
+use Rattle.ppp_hdlc.specs.declared.fault.FrameFault.TheVariants.{Aborted, Short, BadFcs}
 use Rattle.ppp_hdlc.specs.declared.heard.Heard.TheVariants.{Nothing, Frame, Dropped}
 use Rattle.ppp_hdlc.specs.Residue.{bits, number, plus, zeros, divisor, bring_down, remainder, with_first_complemented, Residue, word_of, fcs_of}
 use Rattle.ppp_hdlc.specs.Frames.{Frames, unescaped, ends_escaping, answer, stamped, told}

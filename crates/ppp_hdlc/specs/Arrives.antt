@@ -2,6 +2,7 @@
 use Rattle.std.specs.Prelude.{◌≡◌, ◌≢◌, ℕ, ◌/◌, ◌%◌, ◌<◌, ◌≤◌, List, length, map}
 use Rattle.std.specs.List.{AllByRecursion}
 use Rattle.std.specs.Int.{bit_at}
+use Rattle.ppp_base.specs.declared.octets.TheConstants.{MOST_FRAME}
 use Rattle.ppp_base.specs.declared.send_settings.SendSettings.{SendSettings}
 use Rattle.ppp_hdlc.specs.Frames.{Received}
 use Rattle.ppp_hdlc.specs.Encoding.{encoding, settings_for, with_fcs, body}
@@ -24,6 +25,6 @@ framed_length settings protocol information = length (with_fcs (body (settings_f
 pub record Arrives (settings : SendSettings) (protocol : ℕ) (information : List ℕ) (sent : List Received) : Type 0 where
   pub is_framable : IsFramable protocol
   pub is_long : 4 ≤ framed_length settings protocol information
-  pub is_short : framed_length settings protocol information ≤ 1508
+  pub is_short : framed_length settings protocol information ≤ MOST_FRAME
   pub octets_are : map (λ received. received.0) sent ≡ encoding settings protocol information
   pub maps_are : AllByRecursion (λ received. IsWithin received.1 (settings_for settings protocol information).map) sent

@@ -1,12 +1,13 @@
 -- How a deframer stands for the stream that it was fed.
 use Rattle.std.specs.Prelude.{◌≡◌, ℕ, ◌==◌, nat_lt, Bool, true, false, not, if◌then◌else◌, List, [], ◌∷◌, ◌++◌, length, take, bit_xor}
 use Rattle.std.specs.List.{slice_split}
+use Rattle.ppp_base.specs.declared.octets.TheConstants.{MOST_FRAME}
 use Rattle.ppp_hdlc.specs.Frames.{Received, kept_octets, unescaped, ends_escaping, content, framed}
 use Rattle.ppp_hdlc.specs.Octets.{is_flag, is_escape, is_mapped}
 use Rattle.ppp_hdlc.specs.Residue.{Residue, good_residue}
 use Rattle.ppp_hdlc.specs.declared.heard.Heard.{Heard}
 use Rattle.ppp_hdlc.specs.declared.heard.Heard.TheVariants.{Nothing, Dropped}
-use Rattle.ppp_hdlc.specs.declared.reason.Reason.TheVariants.{Aborted, TooLong, Short, BadFcs}
+use Rattle.ppp_hdlc.specs.declared.fault.FrameFault.TheVariants.{Aborted, TooLong, Short, BadFcs}
 
 -- what a deframer keeps
 pub record Deframing : Type 0 where
@@ -35,8 +36,8 @@ open_part (part ∷ next ∷ parts) = open_part (next ∷ parts)
 
 -- what is kept of a part
 pub record KeepsPart (octets : List ℕ) (is_over is_escaping : Bool) (part : List ℕ) : Type 0 where
-  pub octets_are : octets ≡ take 1508 (unescaped part)
-  pub over_is : is_over ≡ nat_lt 1508 (length (unescaped part))
+  pub octets_are : octets ≡ take MOST_FRAME (unescaped part)
+  pub over_is : is_over ≡ nat_lt MOST_FRAME (length (unescaped part))
   pub escaping_is : is_escaping ≡ ends_escaping part
 
 -- The deframer stands for this stream: it keeps what counts of its open part.
@@ -45,7 +46,7 @@ StandsFor d stream = KeepsPart d.octets d.is_over d.is_escaping (open_part (slic
 
 -- an octet of the part, kept while there is room
 abbrev pub kept : ℕ → Deframing → Deframing
-kept octet d = if length d.octets == 1508 then record d { is_over = true } else record d { octets = d.octets ++ octet ∷ [] }
+kept octet d = if length d.octets == MOST_FRAME then record d { is_over = true } else record d { octets = d.octets ++ octet ∷ [] }
 
 -- an octet that is no flag: dropped by the map, or changed by the escape before it, or an escape, or kept
 abbrev pub taken : ℕ → Deframing → Deframing

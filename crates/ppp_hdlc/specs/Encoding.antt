@@ -1,5 +1,6 @@
 -- How a frame is written (RFC 1662, 3 and 4; RFC 1661, 5, 6.5 and 6.6).
 use Rattle.std.specs.Prelude.{ℕ, ◌/◌, ◌%◌, ◌==◌, ◌&&◌, ◌||◌, nat_lt, Bool, false, not, if◌then◌else◌, List, [], ◌∷◌, ◌++◌, flat_map, bit_xor}
+use Rattle.ppp_base.specs.declared.protocol.TheConstants.{LCP}
 use Rattle.ppp_base.specs.declared.send_settings.SendSettings.{SendSettings}
 use Rattle.ppp_hdlc.specs.Octets.{is_flag, is_escape, is_mapped}
 use Rattle.ppp_hdlc.specs.Residue.{fcs_of}
@@ -14,10 +15,10 @@ plain = record { map = 0xffff_ffff; pfc = false; acfc = false }
 
 -- the settings that count for this frame
 abbrev pub settings_for : SendSettings → ℕ → List ℕ → SendSettings
-settings_for settings protocol information = if protocol == 0xc021 && has_basic_code information then plain else settings
+settings_for settings protocol information = if protocol == LCP && has_basic_code information then plain else settings
 
 abbrev pub address : SendSettings → ℕ → List ℕ
-address settings protocol = if settings.acfc && not (protocol == 0xc021) then [] else 0xff ∷ 0x03 ∷ []
+address settings protocol = if settings.acfc && not (protocol == LCP) then [] else 0xff ∷ 0x03 ∷ []
 
 abbrev pub protocol_field : SendSettings → ℕ → List ℕ
 protocol_field settings protocol = if settings.pfc && nat_lt protocol 0x100 then protocol ∷ [] else protocol / 256 ∷ protocol % 256 ∷ []

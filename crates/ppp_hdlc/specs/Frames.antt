@@ -1,10 +1,11 @@
 -- The answers that a stream of octets gives (RFC 1662, 3 and 4), over the whole stream.
 use Rattle.std.specs.Prelude.{ℕ, ◌+◌, ◌-◌, ◌*◌, ◌%◌, ◌==◌, nat_lt, nat_eq, Bool, false, not, if◌then◌else◌, List, [], ◌∷◌, length, map, filter, flat_map, find, take, drop, Option, Some, None, is_none, bit_xor}
 use Rattle.std.specs.List.{slice_split, starts_with}
+use Rattle.ppp_base.specs.declared.octets.TheConstants.{MOST_FRAME}
 use Rattle.ppp_hdlc.specs.Octets.{is_flag, is_escape, is_mapped}
 use Rattle.ppp_hdlc.specs.Residue.{Residue, good_residue}
-use Rattle.ppp_hdlc.specs.declared.reason.Reason.{Reason}
-use Rattle.ppp_hdlc.specs.declared.reason.Reason.TheVariants.{Aborted, TooLong, Short, BadFcs, BadHeader}
+use Rattle.ppp_hdlc.specs.declared.fault.FrameFault.{FrameFault}
+use Rattle.ppp_hdlc.specs.declared.fault.FrameFault.TheVariants.{Aborted, TooLong, Short, BadFcs, BadHeader}
 use Rattle.ppp_hdlc.specs.declared.heard.Heard.{Heard}
 use Rattle.ppp_hdlc.specs.declared.heard.Heard.TheVariants.{Nothing, Frame, Dropped}
 
@@ -60,22 +61,22 @@ abbrev pub content : List ℕ → Option (ℕ × List ℕ)
 content octets = protocol_of (without_address (without_fcs octets))
 
 -- whether a part is dropped for this reason (RFC 1662, 4.2 and 4.3)
-abbrev pub applies : List ℕ → Reason → Bool
+abbrev pub applies : List ℕ → FrameFault → Bool
 applies part Aborted = ends_escaping part
-applies part TooLong = nat_lt 1508 (length (unescaped part))
+applies part TooLong = nat_lt MOST_FRAME (length (unescaped part))
 applies part Short = nat_lt (length (unescaped part)) 4
 applies part BadFcs = not (Residue (unescaped part) == good_residue)
 applies part BadHeader = is_none (content (unescaped part))
 
 -- the reasons, in the order in which they are tested
-abbrev pub reasons : List Reason
+abbrev pub reasons : List FrameFault
 reasons = Aborted ∷ TooLong ∷ Short ∷ BadFcs ∷ BadHeader ∷ []
 
 abbrev pub framed : Option (ℕ × List ℕ) → Heard
 framed None = Dropped BadHeader
 framed (Some found) = Frame found.0 found.1
 
-abbrev pub dropped_or : Option Reason → Heard → Heard
+abbrev pub dropped_or : Option FrameFault → Heard → Heard
 dropped_or None heard = heard
 dropped_or (Some reason) heard = Dropped reason
 

@@ -7,9 +7,9 @@ ghost use Rattle.ppp_hdlc.specs.Spans.{IsSpan, Takes, fed_all};
 use crate::checksum::residue_of;
 use crate::heard::{Heard, Span};
 use crate::octets::{ESCAPE, ESCAPE_BIT, FLAG, is_mapped};
-use crate::reason::Reason;
+use crate::fault::FrameFault;
 use crate::room::{ROOM, Room};
-use ppp_base::{DEFAULT_MAP, Frame, NoMemory};
+use ppp_base::{DEFAULT_MAP, Frame, MOST_FRAME, NoMemory};
 use std::alloc::Global;
 use std::marker::Model;
 
@@ -200,26 +200,26 @@ impl Deframer {
 
 // What a flag behind a part ends.
 fn judge(octets: &[u8], is_over: bool, is_escaping: bool) -> Heard
-    requires { length octets.now ≤ 1508 }
+    requires { length octets.now ≤ MOST_FRAME }
     ensures { result ≡ judged octets.now is_over is_escaping }
 {
     if is_escaping {
-        return Heard::Dropped(Reason::Aborted);
+        return Heard::Dropped(FrameFault::Aborted);
     }
     if is_over {
-        return Heard::Dropped(Reason::TooLong);
+        return Heard::Dropped(FrameFault::TooLong);
     }
     if octets.is_empty() {
         return Heard::Nothing;
     }
     if octets.len() < LEAST_FRAME {
-        return Heard::Dropped(Reason::Short);
+        return Heard::Dropped(FrameFault::Short);
     }
     if residue_of(octets) != GOOD_RESIDUE {
-        return Heard::Dropped(Reason::BadFcs);
+        return Heard::Dropped(FrameFault::BadFcs);
     }
     match content(&octets[..octets.len() - 2]) {
-        None => Heard::Dropped(Reason::BadHeader),
+        None => Heard::Dropped(FrameFault::BadHeader),
         Some((protocol, information)) => Heard::Frame(protocol, frame_of(information)),
     }
 }
@@ -246,7 +246,7 @@ fn content(octets: &[u8]) -> Option<(u16, &[u8])>
 
 // The information as a frame's octets.
 fn frame_of(information: &[u8]) -> Frame
-    requires { length information.now ≤ 1508 }
+    requires { length information.now ≤ MOST_FRAME }
     ensures { result ≡ information.now }
 {
     let mut frame = Frame::new();

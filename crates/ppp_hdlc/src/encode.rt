@@ -8,7 +8,7 @@ use crate::octets::{ESCAPE, ESCAPE_BIT, FLAG, must_escape};
 use crate::room::Room;
 use arrayvec::ArrayVec;
 use circular_buffer::HeapCircularBuffer;
-use ppp_base::SendSettings;
+use ppp_base::{MOST_FRAME, SendSettings};
 use ppp_base::protocol::LCP;
 
 // How many octets are escaped at a time: twice as many and sixteen more fill a room.
@@ -194,7 +194,7 @@ fn escape_rest(map: u32, octets: &[u8], from: usize, room: &mut Room)
 // Writes one octet, escaped where it must be.
 #[inline]
 fn escape_octet(map: u32, octet: u8, room: &mut Room)
-    requires { length room.old + 2 ≤ 1508 }
+    requires { length room.old + 2 ≤ MOST_FRAME }
     ensures { room.new ≡ room.old ++ escape map octet }
 {
     if must_escape(map, octet) {

@@ -1,6 +1,6 @@
 ghost use Rattle.std.specs.Prelude.{◌≡◌, ◌↔◌, IsTrue};
 
-use crate::reason::Reason;
+use crate::fault::FrameFault;
 use ppp_base::Frame;
 
 /// What an octet ends.
@@ -11,7 +11,7 @@ pub enum Heard {
     /// A frame: its protocol, and its information, without padding being told apart from it.
     Frame(u16, Frame),
     /// Octets that are no frame.
-    Dropped(Reason),
+    Dropped(FrameFault),
 }
 
 impl Heard {

@@ -1,5 +1,6 @@
 //! What is true of the definitions, each proved of a function that does nothing.
 
+ghost use Rattle.ppp_base.specs.declared.octets.TheConstants.{MOST_FRAME};
 ghost use Rattle.std.specs.Prelude.{◌≡◌, ℕ, ◌+◌, ◌-◌, ◌≤◌, ◌↔◌, Bool, List, [], ◌∷◌, ◌++◌, length, take, replicate};
 ghost use Rattle.ppp_base.specs.declared.send_settings.SendSettings.{SendSettings as Settings};
 ghost use Rattle.ppp_hdlc.specs.Frames.{Received, Frames, answer, stamped};
@@ -29,7 +30,7 @@ pub fn frames_back()
 /// sending map covers. Its length without escapes is that of the information and 3 to 6 octets more.
 pub fn frames_arrive()
     ensures arrives { (settings : Settings) (protocol : ℕ) (information : List ℕ) (receiving : ℕ) →
-        IsFramable protocol → 4 ≤ framed_length settings protocol information → framed_length settings protocol information ≤ 1508 →
+        IsFramable protocol → 4 ≤ framed_length settings protocol information → framed_length settings protocol information ≤ MOST_FRAME →
         IsWithin receiving (settings_for settings protocol information).map →
         Arrives settings protocol information (stamped receiving (encoding settings protocol information)) }
     ensures at_least { (settings : Settings) (protocol : ℕ) (information : List ℕ) →

@@ -16,7 +16,7 @@ mod encode;
 mod heard;
 pub mod laws;
 mod octets;
-mod reason;
+mod fault;
 mod room;
 mod runs;
 mod words;
@@ -25,7 +25,7 @@ pub use checksum::fcs;
 pub use deframer::Deframer;
 pub use encode::frame_into;
 pub use heard::{Heard, Span};
-pub use reason::Reason;
+pub use fault::FrameFault;
 
 #[cfg(test)]
 mod tests;

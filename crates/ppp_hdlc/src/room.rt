@@ -4,10 +4,11 @@ ghost use Rattle.ppp_hdlc.specs.Deframing.{whole_part};
 ghost use Rattle.ppp_hdlc.specs.Spans.{Takes};
 
 use crate::runs::{escape_runs, unescape_runs};
+use ppp_base::MOST_FRAME;
 use std::marker::Model;
 
 /// The most octets of a room.
-pub(crate) const ROOM: usize = 1508;
+pub(crate) const ROOM: usize = MOST_FRAME;
 
 /// Octets that are written sixteen at a time, of which those in front count: up to 1,508. Contracts see
 /// those as their list.
@@ -18,13 +19,14 @@ pub(crate) struct Room {
 }
 
 impl Model for Room {
+    ghost use Rattle.ppp_base.specs.declared.octets.TheConstants.{MOST_FRAME};
     ghost use Rattle.std.specs.Prelude.{List, ℕ, length, take, ◌≤◌, ◌≡◌};
 
     ghost Value = { List ℕ };
 
     ghost view = { λ room. take room.count room.octets };
 
-    ghost invariant = { λ room. (room.count ≤ 1508) × (length room.octets ≡ 1508) };
+    ghost invariant = { λ room. (room.count ≤ MOST_FRAME) × (length room.octets ≡ MOST_FRAME) };
 }
 
 impl Room {
@@ -42,7 +44,7 @@ impl Room {
     #[inline]
     pub(crate) fn len(&self) -> usize
         ensures len { result ≡ length self.now }
-        ensures within { result ≤ 1508 }
+        ensures within { result ≤ MOST_FRAME }
     {
         self.count
     }
@@ -51,7 +53,7 @@ impl Room {
     #[inline]
     pub(crate) fn as_slice(&self) -> &[u8]
         ensures octets { result.now ≡ self.now }
-        ensures within { length result.now ≤ 1508 }
+        ensures within { length result.now ≤ MOST_FRAME }
     {
         &self.octets[..self.count]
     }
@@ -67,7 +69,7 @@ impl Room {
     /// Appends an octet.
     #[inline]
     pub(crate) fn push(&mut self, octet: u8)
-        requires { length self.old < 1508 }
+        requires { length self.old < MOST_FRAME }
         ensures { self.new ≡ self.old ++ octet ∷ [] }
     {
         self.octets[self.count] = octet;

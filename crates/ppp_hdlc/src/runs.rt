@@ -1,5 +1,6 @@
 //! Octets that go over the line as they are, sixteen at a time.
 
+ghost use Rattle.ppp_base.specs.declared.octets.TheConstants.{MOST_FRAME};
 ghost use Rattle.std.specs.Prelude.{◌≡◌, ◌≢◌, ℕ, ◌+◌, ◌<◌, ◌≤◌, Bool, ◌++◌, length, take, drop, slice_index};
 ghost use Rattle.std.specs.Int.{bit_at};
 ghost use Rattle.ppp_hdlc.specs.Octets.{is_mapped};
@@ -24,9 +25,9 @@ pub(crate) fn unescape_runs(
 ) -> (usize, usize)
     requires from { from ≤ length octets.now }
     requires count { count ≤ length out.old }
-    requires long { length out.old ≡ 1508 }
-    ensures count { result.1 ≤ 1508 }
-    ensures long { length out.new ≡ 1508 }
+    requires long { length out.old ≡ MOST_FRAME }
+    ensures count { result.1 ≤ MOST_FRAME }
+    ensures long { length out.new ≡ MOST_FRAME }
     ensures takes { (is_over : Bool) → Takes octets.now from result.0 (whole_part map (take count out.old) is_over) (whole_part map (take result.1 out.new) is_over) }
 {
     let mut at = from;
@@ -54,10 +55,10 @@ pub(crate) fn unescape_runs(
 /// Escapes the octets in front to those in front of `out`, sixteen at a time: how far it came in each.
 pub(crate) fn escape_runs(map: u32, octets: &[u8], out: &mut [u8]) -> (usize, usize)
     requires few { length octets.now ≤ 746 }
-    requires long { length out.old ≡ 1508 }
+    requires long { length out.old ≡ MOST_FRAME }
     ensures within { result.0 ≤ length octets.now }
-    ensures count { result.1 ≤ 1508 }
-    ensures long { length out.new ≡ 1508 }
+    ensures count { result.1 ≤ MOST_FRAME }
+    ensures long { length out.new ≡ MOST_FRAME }
     ensures written { take result.1 out.new ≡ escaped map (take result.0 octets.now) }
 {
     let mut at = 0;

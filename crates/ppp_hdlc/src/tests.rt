@@ -11,7 +11,7 @@ const FRAME: [u8; 10] = [0x7e, 0xff, 0x03, 0x00, 0x21, 0x7d, 0x5e, 0xf2, 0xbf, 0
 enum Wanted {
     Nothing,
     Frame(u16, u8),
-    Dropped(Reason),
+    Dropped(FrameFault),
 }
 
 fn is_as_wanted(heard: &Heard, wanted: Wanted) -> bool {
@@ -73,10 +73,10 @@ fn frames_are_written(rt: HostRuntime) -> Result<(), Fail> {
 fn streams_are_heard(rt: HostRuntime) -> Result<(), Fail> {
     let broken: [u8; 8] = [0x7e, 0x7e, 0x7d, 0x7e, 0x41, 0x42, 0x43, 0x7e];
     let frame = [(9, Wanted::Frame(0x21, 0x7e))];
-    let bad = [(9, Wanted::Dropped(Reason::BadFcs))];
+    let bad = [(9, Wanted::Dropped(FrameFault::BadFcs))];
     let both = [
-        (3, Wanted::Dropped(Reason::Aborted)),
-        (7, Wanted::Dropped(Reason::Short)),
+        (3, Wanted::Dropped(FrameFault::Aborted)),
+        (7, Wanted::Dropped(FrameFault::Short)),
     ];
     let rows: [(u32, &[u8], &[(usize, Wanted)]); 3] = [
         (0, &FRAME, &frame),
@@ -135,8 +135,8 @@ fn feed_piece(
 fn spans_cut_anywhere(rt: HostRuntime) -> Result<(), Fail> {
     let broken: [u8; 8] = [0x7e, 0x7e, 0x7d, 0x7e, 0x41, 0x42, 0x43, 0x7e];
     let both = [
-        (3, Wanted::Dropped(Reason::Aborted)),
-        (7, Wanted::Dropped(Reason::Short)),
+        (3, Wanted::Dropped(FrameFault::Aborted)),
+        (7, Wanted::Dropped(FrameFault::Short)),
     ];
     let frame = [(9, Wanted::Frame(0x21, 0x7e))];
     let rows: [(&[u8], &[(usize, Wanted)]); 2] = [(&broken, &both), (&FRAME, &frame)];

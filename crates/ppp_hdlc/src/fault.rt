@@ -3,7 +3,7 @@ use thiserror::Error;
 /// Why the octets between two flags are no frame. Where several apply, the first one in this order
 /// is named.
 #[derive(Clone, Copy, Debug, PartialEq, Eq, Error)]
-pub enum Reason {
+pub enum FrameFault {
     /// They end with an escape: the sender gave the frame up (RFC 1662, 4.2 and 4.3).
     #[error("aborted by the sender")]
     Aborted,
