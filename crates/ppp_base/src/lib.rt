@@ -30,7 +30,7 @@ pub use ends::Ends;
 pub use hex::{hex_digit, read_hex, read_hex_number};
 pub use hook_target::HookTarget;
 pub use link_id::LinkId;
-pub use mrru::Mrru;
+pub use mrru::{DEFAULT_MRU, LEAST_MRRU, LEAST_MRU, MOST_MRRU, Mrru};
 pub use no_memory::NoMemory;
 pub use numbers::{LeadingZeros, read_address, read_number};
 pub use octets::{Datagram, Frame, MOST_DATAGRAM, MOST_FRAME, MOST_NAME, Name, Octets};

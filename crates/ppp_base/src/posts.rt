@@ -1,4 +1,5 @@
 ghost use Rattle.std.specs.Prelude.{◌≡◌, ◌≤◌};
+ghost use Rattle.ppp_base.specs.declared.mrru.TheConstants.{LEAST_MRU, DEFAULT_MRU};
 ghost use Rattle.ppp_base.specs.Posts.{refusal_number, cause_number};
 
 use crate::allow::Allow;
@@ -78,7 +79,7 @@ pub struct Join {
     pub mru: u16,
     /// Which addresses the peer may have.
     pub allow: Allow,
-    ghost mru_range: { (128 ≤ mru) × (mru ≤ 1500) },
+    ghost mru_range: { (LEAST_MRU ≤ mru) × (mru ≤ DEFAULT_MRU) },
 }
 
 /// What a link posts to the table.
