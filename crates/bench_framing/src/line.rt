@@ -43,7 +43,7 @@ impl Line {
     }
 }
 
-/// Writes each packet, and keeps what goes over the line. False where a frame doesn't fit.
+// Writes each packet, and keeps what goes over the line. False where a frame doesn't fit.
 pub(crate) fn framed(line: &mut Line, payload: &Payload) -> io::Result<bool> {
     let mut left = payload.bytes();
     for length in payload.lengths() {
@@ -65,7 +65,7 @@ pub(crate) fn framed(line: &mut Line, payload: &Payload) -> io::Result<bool> {
     Ok(true)
 }
 
-/// Writes each packet, and takes what goes over the line in pieces.
+// Writes each packet, and takes what goes over the line in pieces.
 pub(crate) fn drained(line: &mut Line, payload: &Payload) {
     let mut left = payload.bytes();
     for length in payload.lengths() {
@@ -84,7 +84,7 @@ pub(crate) fn drained(line: &mut Line, payload: &Payload) {
     line.ring.clear();
 }
 
-/// Whether what was kept gives the packets again.
+// Whether what was kept gives the packets again.
 pub(crate) fn is_payload(line: &mut Line, payload: &Payload) -> bool {
     let mut packets = payload.lengths();
     let mut left = payload.bytes();
@@ -118,7 +118,7 @@ pub(crate) fn is_payload(line: &mut Line, payload: &Payload) -> bool {
     packets.is_empty()
 }
 
-/// Takes the line apart, and says how many frames there were.
+// Takes the line apart, and says how many frames there were.
 pub(crate) fn taken_apart(line: &mut Line) -> u64 {
     let mut frames: u64 = 0;
     for piece in line.octets.chunks(PIECE) {

@@ -52,7 +52,7 @@ pub(crate) struct Payload {
 }
 
 impl Payload {
-    /// So many octets at most: the same as the yardstick's for the same seed, where they are random.
+    // So many octets at most: the same as the yardstick's for the same seed, where they are random.
     pub(crate) fn new(alloc: Global, most: u64, seed: u64, kind: Kind) -> io::Result<Payload> {
         let mut words = Words { state: seed };
         let mut octets = Vec::new(alloc);

@@ -18,7 +18,7 @@ pub(crate) enum Ending {
     AbortFound(u8),
 }
 
-/// Whether so many milliseconds have passed since a moment.
+// Whether so many milliseconds have passed since a moment.
 pub(crate) fn has_passed(since: u64, milliseconds: u64, now: u64) -> bool
     ensures { result ≡ nat_le (since + milliseconds) now }
 {
@@ -28,8 +28,8 @@ pub(crate) fn has_passed(since: u64, milliseconds: u64, now: u64) -> bool
     }
 }
 
-/// How an expect, which began at a moment, ends with an event, if it does. The octets are the last since it began,
-/// the event's too.
+// How an expect, which began at a moment, ends with an event, if it does. The octets are the last since it began,
+// the event's too.
 pub(crate) fn ending_with(
     steps: &[Step],
     directives: &Directives,

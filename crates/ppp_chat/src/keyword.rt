@@ -25,7 +25,7 @@ fn name(keyword: Keyword) -> &'static [u8]
     }
 }
 
-/// The directive that a word names, if it does.
+// The directive that a word names, if it does.
 pub(crate) fn keyword_of(word: &[u8]) -> Option<Keyword>
     ensures { result ≡ keyword_of word.now }
 {

@@ -138,7 +138,7 @@ fn behind_caret(octets: &[u8]) -> Option<Spelled>
     }
 }
 
-/// The piece that an octet begins, before these others.
+// The piece that an octet begins, before these others.
 pub(crate) fn first_piece(octet: u8, others: &[u8]) -> Option<Spelled>
     ensures value { result ≡ first_piece octet others.now }
     ensures within { IfSome result (λ spelled. spelled.more ≤ length others.now) }

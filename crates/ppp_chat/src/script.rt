@@ -60,7 +60,7 @@ impl Script {
         Ok(Script { steps, timeout_s })
     }
 
-    /// The steps.
+    // The steps.
     pub(crate) fn steps(&self) -> &[Step]
         ensures steps { result.now ≡ flat self.now.items }
         ensures short { AreShort (flat self.now.items) }
@@ -69,7 +69,7 @@ impl Script {
         self.steps.as_slice()
     }
 
-    /// After so many seconds an expect is late, where no step says others.
+    // After so many seconds an expect is late, where no step says others.
     pub(crate) fn timeout_s(&self) -> u32
         ensures { result ≡ self.now.timeout_s }
     {

@@ -62,7 +62,7 @@ fn push_last(steps: &mut Steps, mut octets: Vec<u8>, has_return: bool) -> Result
     steps.push(Step::Send(Text::new(octets)))
 }
 
-/// Adds the steps of a send.
+// Adds the steps of a send.
 pub(crate) fn push_send(
     alloc: Global,
     steps: &mut Steps,

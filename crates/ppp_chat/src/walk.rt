@@ -119,7 +119,7 @@ fn stage_at_end(sent: &SentOctets) -> Stage
     }
 }
 
-/// Does what follows at once from a place on: up to a second send, a string to be waited for, a delay, or the end.
+// Does what follows at once from a place on: up to a second send, a string to be waited for, a delay, or the end.
 pub(crate) fn walk(
     steps: &[Step],
     from: usize,

@@ -140,7 +140,7 @@ fn read_pair(
     read_send(alloc, steps, number + 1, send)
 }
 
-/// Adds the steps of two words, of which the first has this number.
+// Adds the steps of two words, of which the first has this number.
 pub(crate) fn read_two(
     alloc: Global,
     steps: &mut Steps,
@@ -157,7 +157,7 @@ pub(crate) fn read_two(
     }
 }
 
-/// Adds the steps of a last word that stands alone.
+// Adds the steps of a last word that stands alone.
 pub(crate) fn read_last(
     alloc: Global,
     steps: &mut Steps,

@@ -9,10 +9,10 @@
 
 mod call;
 mod dial;
-mod laws;
+pub mod laws;
 mod now;
 mod policy;
-mod rows;
+pub mod rows;
 mod rules;
 mod session_end;
 mod stage;
@@ -21,14 +21,6 @@ mod tests;
 
 pub use call::CallKind;
 pub use dial::Dial;
-pub use laws::{
-    a_list_in_parts, a_stop_is_the_end, each_in_its_place, exactly_one_answer, looking_back,
-    passed_over_leaves_nothing, under_way_by_calls,
-};
 pub use now::DialNow;
 pub use policy::DialPolicy;
-pub use rows::{
-    a_hang_up_in_a_hold, a_link_on_demand, a_stop, ends_and_holds, failures_in_a_row, one_session,
-    passed_over, the_least_room, two_failures,
-};
 pub use session_end::SessionEnd;

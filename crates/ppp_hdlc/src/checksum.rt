@@ -15,14 +15,14 @@ pub fn fcs(bytes: &[u8]) -> u16
     !residue_of(bytes)
 }
 
-/// What the division of the octets' bits leaves.
+// What the division of the octets' bits leaves.
 pub(crate) fn residue_of(bytes: &[u8]) -> u16
     ensures { result ≡ Residue bytes.now }
 {
     register_behind(FIRST, bytes)
 }
 
-/// The register behind these octets, eight at a time.
+// The register behind these octets, eight at a time.
 pub(crate) fn register_behind(register: u16, bytes: &[u8]) -> u16
     ensures { result ≡ register_after register bytes.now }
 {

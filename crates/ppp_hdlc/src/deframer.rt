@@ -5,9 +5,9 @@ ghost use Rattle.ppp_hdlc.specs.Deframing.{StandsFor, fresh, kept, fed, judged, 
 ghost use Rattle.ppp_hdlc.specs.Spans.{IsSpan, Takes, fed_all};
 
 use crate::checksum::residue_of;
+use crate::fault::FrameFault;
 use crate::heard::{Heard, Span};
 use crate::octets::{ESCAPE, ESCAPE_BIT, FLAG, is_mapped};
-use crate::fault::FrameFault;
 use crate::room::{ROOM, Room};
 use ppp_base::{DEFAULT_MAP, Frame, MOST_FRAME, NoMemory};
 use std::alloc::Global;

@@ -8,8 +8,8 @@ use crate::octets::{ESCAPE, ESCAPE_BIT, FLAG, must_escape};
 use crate::room::Room;
 use arrayvec::ArrayVec;
 use circular_buffer::HeapCircularBuffer;
-use ppp_base::{MOST_FRAME, SendSettings};
 use ppp_base::protocol::LCP;
+use ppp_base::{MOST_FRAME, SendSettings};
 
 // How many octets are escaped at a time: twice as many and sixteen more fill a room.
 const PIECE: usize = 746;

@@ -13,10 +13,10 @@
 mod checksum;
 mod deframer;
 mod encode;
+mod fault;
 mod heard;
 pub mod laws;
 mod octets;
-mod fault;
 mod room;
 mod runs;
 mod words;
@@ -24,8 +24,8 @@ mod words;
 pub use checksum::fcs;
 pub use deframer::Deframer;
 pub use encode::frame_into;
-pub use heard::{Heard, Span};
 pub use fault::FrameFault;
+pub use heard::{Heard, Span};
 
 #[cfg(test)]
 mod tests;

@@ -30,7 +30,7 @@ impl Model for Room {
 }
 
 impl Room {
-    /// No octets.
+    // No octets.
     pub(crate) fn new() -> Room
         ensures { result ≡ [] }
     {
@@ -40,7 +40,7 @@ impl Room {
         }
     }
 
-    /// How many octets there are.
+    // How many octets there are.
     #[inline]
     pub(crate) fn len(&self) -> usize
         ensures len { result ≡ length self.now }
@@ -49,7 +49,7 @@ impl Room {
         self.count
     }
 
-    /// The octets.
+    // The octets.
     #[inline]
     pub(crate) fn as_slice(&self) -> &[u8]
         ensures octets { result.now ≡ self.now }
@@ -58,7 +58,7 @@ impl Room {
         &self.octets[..self.count]
     }
 
-    /// Leaves no octets.
+    // Leaves no octets.
     #[inline]
     pub(crate) fn clear(&mut self)
         ensures { self.new ≡ [] }
@@ -66,7 +66,7 @@ impl Room {
         self.count = 0;
     }
 
-    /// Appends an octet.
+    // Appends an octet.
     #[inline]
     pub(crate) fn push(&mut self, octet: u8)
         requires { length self.old < MOST_FRAME }
@@ -76,8 +76,8 @@ impl Room {
         self.count += 1;
     }
 
-    /// Appends octets of the line from a place on, unescaped under this map, while there are sixteen and room for
-    /// as many, and says how far it came: at most up to a flag.
+    // Appends octets of the line from a place on, unescaped under this map, while there are sixteen and room for
+    // as many, and says how far it came: at most up to a flag.
     pub(crate) fn append_unescaped(&mut self, map: u32, octets: &[u8], from: usize) -> usize
         requires { from ≤ length octets.now }
         ensures { (is_over : Bool) → Takes octets.now from result (whole_part map self.old is_over) (whole_part map self.new is_over) }
@@ -87,7 +87,7 @@ impl Room {
         at
     }
 
-    /// Leaves octets in front, escaped under this map, while there are sixteen, and says how many they are.
+    // Leaves octets in front, escaped under this map, while there are sixteen, and says how many they are.
     pub(crate) fn put_escaped(&mut self, map: u32, octets: &[u8]) -> usize
         requires { length octets.now ≤ 746 }
         ensures within { result ≤ length octets.now }

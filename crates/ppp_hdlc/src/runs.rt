@@ -14,8 +14,8 @@ use std::simd::prelude::*;
 /// How many octets are looked at together.
 const LANES: usize = 16;
 
-/// Unescapes the octets of the line from a place on to those from `count` on in `out`, sixteen at a time: how far it
-/// came in each. It ends at an octet that is more than plain or an escape with the octet behind it.
+// Unescapes the octets of the line from a place on to those from `count` on in `out`, sixteen at a time: how far it
+// came in each. It ends at an octet that is more than plain or an escape with the octet behind it.
 pub(crate) fn unescape_runs(
     map: u32,
     octets: &[u8],
@@ -52,7 +52,7 @@ pub(crate) fn unescape_runs(
     (at, n)
 }
 
-/// Escapes the octets in front to those in front of `out`, sixteen at a time: how far it came in each.
+// Escapes the octets in front to those in front of `out`, sixteen at a time: how far it came in each.
 pub(crate) fn escape_runs(map: u32, octets: &[u8], out: &mut [u8]) -> (usize, usize)
     requires few { length octets.now ≤ 746 }
     requires long { length out.old ≡ MOST_FRAME }

@@ -106,7 +106,7 @@ fn cut_anywhere(rt: HostRuntime) -> Result<(), Fail> {
     Ok(())
 }
 
-/// Feeds a piece of a stream by spans, and looks at the answer at each of its octets.
+// Feeds a piece of a stream by spans, and looks at the answer at each of its octets.
 fn feed_piece(
     rt: &impl Abort,
     deframer: &mut Deframer,
@@ -168,7 +168,7 @@ fn a_frame_in_two_spans(rt: HostRuntime) -> Result<(), Fail> {
     Ok(())
 }
 
-/// An information longer than two runs of sixteen, with octets to be escaped at each place of a run.
+// An information longer than two runs of sixteen, with octets to be escaped at each place of a run.
 #[test]
 fn long_frames_go_round(rt: HostRuntime) -> Result<(), Fail> {
     let mut information = [0x41u8; 1500];

@@ -1,7 +1,7 @@
-ghost use Rattle.std.specs.Prelude.{◌≡◌, ℕ, ◌+◌, ◌-◌, ◌^◌, ◌<◌, ◌≤◌, ◌∷◌, List, None, Some, option_map, if◌then◌else◌, nat_lt};
+ghost use Rattle.std.specs.Prelude.{◌≡◌, [], ℕ, ◌+◌, ◌-◌, ◌^◌, ◌<◌, ◌≤◌, ◌∷◌, List, None, Some, option_map, if◌then◌else◌, nat_lt};
 ghost use Rattle.ppp_hooks.specs.HookFacts.{settled, start_due, with_open, with_closed, with_end, up_of, down_of, start_key, opening_number, StandsFor, HasArgs, started, no_facts};
 ghost use Rattle.ppp_hooks.specs.HookMark.{HookMark, Opened, Closed, Ended};
-ghost use Rattle.ppp_hooks.specs.HookPast.{not_started_by, starts_in, ends_in, greatest_in};
+ghost use Rattle.ppp_hooks.specs.HookPast.{not_started_by, starts_in, ends_in, open_in, greatest_in, last_in};
 ghost use Rattle.ppp_hooks.specs.HookRule.{due_after, with_due};
 ghost use Rattle.ppp_hooks.specs.HookWords.{words_of_start, script_for};
 
@@ -112,7 +112,8 @@ fn failures(answer: ScriptEnd) -> u32
 impl HookFacts {
     /// Those of a protocol that is closed, with no start so far.
     pub fn new() -> HookFacts
-        ensures { result ≡ no_facts }
+        ensures value { result ≡ no_facts }
+        ensures stands { StandsFor result [] }
     {
         HookFacts {
             now_open: None,
@@ -193,7 +194,8 @@ impl HookFacts {
 
     /// The last start.
     pub fn last_start(&self) -> Option<HookStart>
-        ensures { option_map (λ (s : HookStart). (s.up, s.opening)) result ≡ option_map start_key self.now.last }
+        ensures value { option_map (λ (s : HookStart). (s.up, s.opening)) result ≡ option_map start_key self.now.last }
+        ensures of_past { (past : List HookMark) → StandsFor self.now past → option_map (λ (s : HookStart). (s.up, s.opening)) result ≡ last_in past }
     {
         self.last.as_ref().map(|start| HookStart {
             up: start.up,
@@ -203,14 +205,17 @@ impl HookFacts {
 
     /// The number of the opening that is open.
     pub fn open_number(&self) -> Option<u32>
-        ensures { result ≡ opening_number self.now.now_open }
+        ensures value { result ≡ opening_number self.now.now_open }
+        ensures of_past { (past : List HookMark) → StandsFor self.now past → result ≡ open_in past }
     {
         self.now_open.as_ref().map(|opening| opening.number)
     }
 
     /// The number of the job that runs.
     pub fn running(&self) -> Option<u32>
-        ensures { result ≡ (if nat_lt self.now.ends self.now.starts then Some self.now.starts else None) }
+        ensures value { result ≡ (if nat_lt self.now.ends self.now.starts then Some self.now.starts else None) }
+        ensures of_past { (past : List HookMark) → StandsFor self.now past
+            → result ≡ (if nat_lt (ends_in past) (starts_in past) then Some (starts_in past) else None) }
     {
         if self.ends < self.starts {
             Some(self.starts)

@@ -1,5 +1,7 @@
 -- What the options of two acknowledged requests mean. Of two options of one type the later holds.
 use Rattle.std.specs.Prelude.{ℕ, ◌==◌, nat_le, ◌&&◌, min, if◌then◌else◌, Option, Some, None, is_some, List, [], ◌∷◌, length}
+use Rattle.ppp_base.specs.declared.send_settings.TheConstants.{DEFAULT_MAP}
+use Rattle.ppp_base.specs.declared.mrru.TheConstants.{DEFAULT_MRU, LEAST_MRRU, MOST_MRRU}
 use Rattle.ppp_base.specs.Disc.{Discriminator}
 use Rattle.ppp_base.specs.Mrru.{MrruPair}
 use Rattle.ppp_packet.specs.OptionsOf.{Item}
@@ -50,16 +52,16 @@ number2_of (Some body) = if length body == 2 then Some (number2 body) else None
 abbrev pub mrru_pair : Option ℕ → Option ℕ → Option MrruPair
 mrru_pair None theirs = None
 mrru_pair (Some ours) None = None
-mrru_pair (Some ours) (Some theirs) = if nat_le 1500 ours && nat_le ours 2048 && nat_le 1500 theirs then Some (record { ours = ours; theirs = theirs }) else None
+mrru_pair (Some ours) (Some theirs) = if nat_le LEAST_MRRU ours && nat_le ours MOST_MRRU && nat_le LEAST_MRRU theirs then Some (record { ours = ours; theirs = theirs }) else None
 
 -- A peer's MRU above 1500 counts as 1500. What a request leaves out has its default.
 abbrev pub agreed_by : List Item → List Item → Agreed
 agreed_by ours theirs = record {
   we_prove = method_in theirs;
   peer_proves = method_in ours;
-  peer_mru = min (number2_or (last_body 1 theirs) 1500) 1500;
+  peer_mru = min (number2_or (last_body 1 theirs) DEFAULT_MRU) DEFAULT_MRU;
   mrru = mrru_pair (number2_of (last_body 17 ours)) (number2_of (last_body 17 theirs));
   disc = discriminator_of (last_body 19 theirs);
-  send = record { map = number4_or (last_body 2 theirs) 0xffffffff; pfc = is_some (last_body 7 theirs); acfc = is_some (last_body 8 theirs) };
-  receive_map = number4_or (last_body 2 ours) 0xffffffff;
+  send = record { map = number4_or (last_body 2 theirs) DEFAULT_MAP; pfc = is_some (last_body 7 theirs); acfc = is_some (last_body 8 theirs) };
+  receive_map = number4_or (last_body 2 ours) DEFAULT_MAP;
 }

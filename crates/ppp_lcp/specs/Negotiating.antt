@@ -2,6 +2,7 @@
 use Rattle.std.specs.Int.{to_be_bytes, w32}
 use Rattle.std.specs.Prelude.{is_none, length, drop, min, not, ℕ, ◌+◌, ◌*◌, ◌==◌, ◌&&◌, ◌||◌, nat_le, Bool, true, false, if◌then◌else◌, Option, Some, None, List, [], ◌∷◌, ◌++◌}
 use Rattle.std.specs.List.{list_any}
+use Rattle.ppp_base.specs.declared.mrru.TheConstants.{DEFAULT_MRU}
 use Rattle.ppp_timer.specs.Due.{has_come}
 use Rattle.ppp_base.specs.declared.code.TheConstants.{ECHO_REPLY, ECHO_REQUEST, PROTOCOL_REJECT}
 use Rattle.ppp_base.specs.declared.protocol.TheConstants.{CHAP, IPCP, MULTILINK, PAP}
@@ -102,10 +103,10 @@ event_told event repeats now l = event_out event (plain (begun event l) repeats 
 
 -- the most octets of a packet to the peer: its MRU in Opened, and 1,500 before
 abbrev pub peer_mru : Lcp → ℕ
-peer_mru l = min (number2_or (last_body 1 l.core.acknowledged) 1500) 1500
+peer_mru l = min (number2_or (last_body 1 l.core.acknowledged) DEFAULT_MRU) DEFAULT_MRU
 
 abbrev pub limit_of : Lcp → ℕ
-limit_of l = if l.core.fsm.state == 9 then peer_mru l else 1500
+limit_of l = if l.core.fsm.state == 9 then peer_mru l else DEFAULT_MRU
 
 -- what an event comes with, where a packet other than a request was heard
 abbrev pub by_packet : Lcp → Packet → ℕ → Given

@@ -1,6 +1,7 @@
 -- What we ask for, as a function of the wish, the generator's first state and what was answered in the session.
 use Rattle.std.specs.Prelude.{ℕ, ◌==◌, max, nat_le, not, ◌&&◌, ◌||◌, bit_or, Bool, true, false, if◌then◌else◌, Option, Some, None, List, [], ◌∷◌, ◌++◌, length}
 use Rattle.std.specs.Int.{to_be_bytes, w16, w32}
+use Rattle.ppp_base.specs.declared.mrru.TheConstants.{DEFAULT_MRU, LEAST_MRRU, LEAST_MRU}
 use Rattle.ppp_packet.specs.OptionsOf.{Item, item}
 use Rattle.ppp_base.specs.RandomWords.{next_word, next_state}
 use Rattle.ppp_base.specs.Disc.{Discriminator}
@@ -34,7 +35,7 @@ first wish words = record { mru = wish.mru; map = wish.map; method = first_metho
 
 -- What a Nak's option changes: an MRU from 128 to the wish's, more of the map, an allowed method, an MRRU from 1500 to the wish's.
 abbrev pub nak_mru : LcpWish → Ours → List ℕ → Ours
-nak_mru wish o body = if length body == 2 && nat_le 128 (number2 body) && nat_le (number2 body) wish.mru then record o { mru = number2 body } else o
+nak_mru wish o body = if length body == 2 && nat_le LEAST_MRU (number2 body) && nat_le (number2 body) wish.mru then record o { mru = number2 body } else o
 
 abbrev pub nak_map : Ours → List ℕ → Ours
 nak_map o body = if length body == 4 then record o { map = bit_or o.map (number4 body) } else o
@@ -46,7 +47,7 @@ nak_method wish o body =
     else o
 
 abbrev pub nak_mrru : LcpWish → Ours → List ℕ → Ours
-nak_mrru wish o body = if length body == 2 && nat_le 1500 (number2 body) && nat_le (number2 body) wish.mrru then record o { mrru = number2 body } else o
+nak_mrru wish o body = if length body == 2 && nat_le LEAST_MRRU (number2 body) && nat_le (number2 body) wish.mrru then record o { mrru = number2 body } else o
 
 abbrev pub nak_item : LcpWish → Ours → Item → Ours
 nak_item wish o i =
@@ -111,7 +112,7 @@ asks_disc wish o = disc_item (wish.multilink && not o.left_out.mrru && not o.lef
 -- The options of our request, in rising type.
 unfoldable pub asks : LcpWish → Ours → List Item
 asks wish o =
-    asked_if (not (o.mru == 1500) && not o.left_out.mru) 1 (to_be_bytes w16 o.mru)
+    asked_if (not (o.mru == DEFAULT_MRU) && not o.left_out.mru) 1 (to_be_bytes w16 o.mru)
     ++ asked_if (not wish.default_map && not o.left_out.map) 2 (to_be_bytes w32 o.map)
     ++ asks_method o
     ++ asked_if (wish.magic && not o.left_out.magic) 5 (to_be_bytes w32 o.magic)

@@ -1,6 +1,7 @@
 -- What is thought of each option of a peer's Configure-Request (RFC 1661, section 6, and RFC 1990, section 5.1).
 use Rattle.std.specs.Prelude.{ℕ, ◌+◌, ◌*◌, ◌==◌, nat_le, not, ◌&&◌, ◌||◌, Bool, if◌then◌else◌, List, [], ◌∷◌, length, slice_index}
 use Rattle.std.specs.Int.{from_be_bytes, to_be_bytes, w32}
+use Rattle.ppp_base.specs.declared.mrru.TheConstants.{LEAST_MRRU, LEAST_MRU}
 use Rattle.ppp_packet.specs.OptionsOf.{Item}
 use Rattle.ppp_control.specs.Answers.{Judgement, acks, names, rejects}
 use Rattle.ppp_lcp.specs.declared.wish.LcpWish.{LcpWish}
@@ -30,7 +31,7 @@ abbrev pub acked_if : Bool → Judgement
 acked_if test = if test then acks else rejects
 
 abbrev pub mru_judged : List ℕ → Judgement
-mru_judged body = if length body == 2 then (if nat_le 128 (number2 body) then acks else names (0 ∷ 128 ∷ [])) else rejects
+mru_judged body = if length body == 2 then (if nat_le LEAST_MRU (number2 body) then acks else names (0 ∷ 128 ∷ [])) else rejects
 
 abbrev pub authentication_judged : LcpWish → List ℕ → Judgement
 authentication_judged wish body =
@@ -46,7 +47,7 @@ magic_judged wish ours word body =
     else rejects
 
 abbrev pub mrru_judged : Bool → List ℕ → Judgement
-mrru_judged multilink body = if length body == 2 && multilink then (if nat_le 1500 (number2 body) then acks else names (0x05 ∷ 0xdc ∷ [])) else rejects
+mrru_judged multilink body = if length body == 2 && multilink then (if nat_le LEAST_MRRU (number2 body) then acks else names (0x05 ∷ 0xdc ∷ [])) else rejects
 
 -- The table: MRU 1, ACCM 2, Authentication-Protocol 3, Magic-Number 5, PFC 7, ACFC 8, MRRU 17 and Endpoint
 -- Discriminator 19. All others are rejected.

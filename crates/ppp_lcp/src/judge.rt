@@ -5,6 +5,7 @@ ghost use Rattle.ppp_lcp.specs.Verdict.{verdict_of, verdict_to, verdict_where};
 ghost use Rattle.ppp_lcp.specs.Table.{octets_judged, judged_where, is_chap, is_pap, number2, number4, mru_judged, mrru_judged, authentication_judged, magic_judged, acked_if};
 
 use crate::wish::LcpWish;
+use ppp_base::{LEAST_MRRU, LEAST_MRU};
 use ppp_control::{Judge, Judged, Verdict, verdict_by};
 use ppp_packet::OptionList;
 
@@ -56,7 +57,7 @@ fn mru(body: &[u8]) -> Judged<'static>
     if body.len() != 2 {
         return Judged::Rejected;
     }
-    if number2(body) >= 128 {
+    if number2(body) >= LEAST_MRU {
         Judged::Acked
     } else {
         Judged::Named(&[0, 128])
@@ -70,7 +71,7 @@ fn mrru(multilink: bool, body: &[u8]) -> Judged<'static>
     if body.len() != 2 || !multilink {
         return Judged::Rejected;
     }
-    if number2(body) >= 1500 {
+    if number2(body) >= LEAST_MRRU {
         Judged::Acked
     } else {
         Judged::Named(&[0x05, 0xdc])

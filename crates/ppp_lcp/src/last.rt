@@ -3,7 +3,7 @@ ghost use Rattle.std.specs.Option.{option_copied};
 ghost use Rattle.ppp_lcp.specs.Last.{last_body, number2_or, number4_or, method_of, method_in, agreed_by, mrru_pair, number2_of, discriminator_of};
 
 use crate::judge::{is_chap, is_pap, number2, number4};
-use ppp_base::{Disc, Mrru, SendSettings};
+use ppp_base::{DEFAULT_MAP, DEFAULT_MRU, Disc, Mrru, SendSettings};
 use ppp_packet::{Agreed, Method, OptionList};
 
 // The data of the last option of a type.
@@ -126,17 +126,17 @@ pub(crate) fn agreed_by(ours: &OptionList, theirs: &OptionList) -> Agreed
     Agreed {
         we_prove: method_in(theirs),
         peer_proves: method_in(ours),
-        peer_mru: number2_or(last_body(theirs, 1), 1500).min(1500),
+        peer_mru: number2_or(last_body(theirs, 1), DEFAULT_MRU).min(DEFAULT_MRU),
         mrru: mrru_pair(
             number2_of(last_body(ours, 17)),
             number2_of(last_body(theirs, 17)),
         ),
         disc: discriminator_of(last_body(theirs, 19)),
         send: SendSettings {
-            map: number4_or(last_body(theirs, 2), 0xffff_ffff),
+            map: number4_or(last_body(theirs, 2), DEFAULT_MAP),
             pfc: last_body(theirs, 7).is_some(),
             acfc: last_body(theirs, 8).is_some(),
         },
-        receive_map: number4_or(last_body(ours, 2), 0xffff_ffff),
+        receive_map: number4_or(last_body(ours, 2), DEFAULT_MAP),
     }
 }

@@ -1,4 +1,5 @@
 ghost use Rattle.std.specs.Prelude.{◌≡◌, ◌+◌, ◌^◌, ◌≤◌, length, [], ◌∷◌, true, false, ℕ, List};
+ghost use Rattle.ppp_base.specs.declared.mrru.TheConstants.{LEAST_MRU, LEAST_MRRU, MOST_MRRU};
 ghost use Rattle.ppp_lcp.specs.Verdict.{event_on};
 ghost use Rattle.ppp_lcp.specs.Negotiating.{is_four, is_proved_by, begins, names_kind, sends_verdict};
 ghost use Rattle.std.specs.Option.{option_copied};
@@ -9,7 +10,7 @@ use crate::magic::{cut, cut_information, names_magic};
 use crate::ours::Ours;
 use crate::out::LcpOut;
 use crate::wish::LcpWish;
-use ppp_base::{code, protocol};
+use ppp_base::{DEFAULT_MRU, code, protocol};
 use ppp_control::{HeardAs, Negotiation, Occasion, Verdict, class};
 use ppp_fsm::{Act, Acts, FsmEvent};
 use ppp_packet::{Agreed, Body, Method, OptionList, Packet};
@@ -101,8 +102,8 @@ impl Lcp {
 
     /// In Initial. `words` is the state of the generator of magic numbers.
     pub fn new(wish: LcpWish, words: u64) -> Lcp
-        requires mru { (128 ≤ wish.mru) × (wish.mru ≤ 1500) }
-        requires mrru { (1500 ≤ wish.mrru) × (wish.mrru ≤ 2048) }
+        requires mru { (LEAST_MRU ≤ wish.mru) × (wish.mru ≤ DEFAULT_MRU) }
+        requires mrru { (LEAST_MRRU ≤ wish.mrru) × (wish.mrru ≤ MOST_MRRU) }
         requires restart { 1 ≤ wish.restart_s }
         requires max_failure { 1 ≤ wish.max_failure }
         ensures stands { StandsFor words result [] }
@@ -437,20 +438,20 @@ impl Lcp {
     // The most octets of information that the peer takes.
     fn peer_mru(&self) -> u16
         ensures value { result ≡ peer_mru self.now }
-        ensures range { result ≤ 1500 }
+        ensures range { result ≤ DEFAULT_MRU }
     {
-        number2_or(last_body(self.core.acknowledged(), 1), 1500).min(1500)
+        number2_or(last_body(self.core.acknowledged(), 1), DEFAULT_MRU).min(DEFAULT_MRU)
     }
 
     // The most octets of a packet to the peer.
     fn limit(&self) -> usize
         ensures value { result ≡ limit_of self.now }
-        ensures range { result ≤ 1500 }
+        ensures range { result ≤ DEFAULT_MRU }
     {
         if self.core.state() == 9 {
             usize::from(self.peer_mru())
         } else {
-            1500
+            usize::from(DEFAULT_MRU)
         }
     }
 

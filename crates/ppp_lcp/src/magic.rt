@@ -1,5 +1,6 @@
 ghost use Rattle.std.specs.Prelude.{◌≡◌, ◌-◌, ◌≤◌, ◌++◌, take, length};
 ghost use Rattle.std.specs.Int.{to_be_bytes, w16};
+ghost use Rattle.ppp_base.specs.declared.mrru.TheConstants.{DEFAULT_MRU};
 ghost use Rattle.ppp_packet.specs.PacketOf.{laid_packet};
 ghost use Rattle.ppp_lcp.specs.Magic.{has_magic, cut_packet, cut_information};
 ghost use Rattle.ppp_lcp.specs.Ours.{names_magic};
@@ -43,7 +44,7 @@ fn up_to(octets: &[u8], limit: usize) -> &[u8]
 
 // What a Code-Reject of a packet carries, where it may have so many octets.
 pub(crate) fn cut(packet: &Packet, limit: usize) -> Body
-    requires { limit ≤ 1500 }
+    requires { limit ≤ DEFAULT_MRU }
     ensures { result ≡ cut_packet limit packet.now }
 {
     let data = packet.body.as_slice();
@@ -63,7 +64,7 @@ pub(crate) fn cut(packet: &Packet, limit: usize) -> Body
 
 // What a Protocol-Reject carries, where it may have so many octets.
 pub(crate) fn cut_information(protocol: u16, information: &[u8], limit: usize) -> Body
-    requires { limit ≤ 1500 }
+    requires { limit ≤ DEFAULT_MRU }
     ensures { result ≡ cut_information limit protocol information.now }
 {
     let mut body = Body::new();

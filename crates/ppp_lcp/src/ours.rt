@@ -4,7 +4,7 @@ ghost use Rattle.ppp_lcp.specs.Ours.{first_method};
 
 use crate::judge::{is_chap, is_pap, number2, number4};
 use crate::wish::LcpWish;
-use ppp_base::RandomWords;
+use ppp_base::{DEFAULT_MRU, LEAST_MRRU, LEAST_MRU, RandomWords};
 use ppp_packet::{Body, Method, OptionList};
 use rand_core::Rng;
 
@@ -124,7 +124,7 @@ impl Ours {
         let mut list = OptionList::new();
         push_if(
             &mut list,
-            self.mru != 1500 && !out.mru,
+            self.mru != DEFAULT_MRU && !out.mru,
             1,
             &self.mru.to_be_bytes(),
         );
@@ -209,7 +209,7 @@ impl Ours {
     {
         if body.len() == 2 {
             let number = number2(body);
-            if 128 <= number && number <= wish.mru {
+            if LEAST_MRU <= number && number <= wish.mru {
                 self.mru = number;
             }
         }
@@ -220,7 +220,7 @@ impl Ours {
     {
         if body.len() == 2 {
             let number = number2(body);
-            if 1500 <= number && number <= wish.mrru {
+            if LEAST_MRRU <= number && number <= wish.mrru {
                 self.mrru = number;
             }
         }

@@ -1,3 +1,4 @@
+ghost use Rattle.ppp_base.specs.declared.mrru.TheConstants.{MOST_MRRU};
 ghost use Rattle.std.specs.Prelude.{◌<◌, ◌≤◌};
 
 use crate::counts::GatherCounts;
@@ -14,5 +15,5 @@ pub(crate) struct GatherFacts {
     pub(crate) overs: [Option<u32>; 16],
     pub(crate) counts: GatherCounts,
     ghost ranged: { base < 16777216 },
-    ghost lawful: { mrru ≤ 2048 },
+    ghost lawful: { mrru ≤ MOST_MRRU },
 }

@@ -1,3 +1,5 @@
+ghost use Rattle.ppp_base.specs.declared.mrru.TheConstants.{LEAST_MRRU, MOST_MRRU};
+ghost use Rattle.ppp_base.specs.declared.octets.TheConstants.{MOST_FRAME};
 ghost use Rattle.std.specs.Prelude.{◌≡◌, ◌≢◌, ℕ, ◌+◌, ◌*◌, ◌<◌, ◌≤◌, ◌↔◌, ◌⊎◌, List, [], length, IfOk, IsSome, IfSome};
 ghost use Rattle.ppp_mp.specs.Delivered.{Entry, Joins, Leaves, Gathering, nothing};
 ghost use Rattle.ppp_mp.specs.LongHeader.{fragment_of, long_space};
@@ -38,7 +40,7 @@ impl Gather {
     /// Nothing has come, no link is a member, and number 0 is expected. `mrru` is ours. All memory that is ever needed
     /// is taken here.
     pub fn new(alloc: Global, mrru: u16) -> Result<Gather, NoMemory>
-        requires { (1500 ≤ mrru) × (mrru ≤ 2048) }
+        requires { (LEAST_MRRU ≤ mrru) × (mrru ≤ MOST_MRRU) }
         ensures stands { IfOk result (λ g. StandsFor g [] (nothing long_space)) }
         ensures mrru { IfOk result (λ g. g.mrru ≡ mrru) }
     {
@@ -58,7 +60,7 @@ impl Gather {
 
     /// Forgets members, pieces and counts, takes this MRRU as ours, and expects number 0.
     pub fn restart(&mut self, mrru: u16)
-        requires { (1500 ≤ mrru) × (mrru ≤ 2048) }
+        requires { (LEAST_MRRU ≤ mrru) × (mrru ≤ MOST_MRRU) }
         ensures stands { StandsFor self.new [] (nothing long_space) }
         ensures mrru { self.new.mrru ≡ mrru }
     {
@@ -100,7 +102,7 @@ impl Gather {
     /// A piece comes: its long header (RFC 1990, section 3) and its octets. The packets that it completes or lets
     /// through are given.
     pub fn piece(&mut self, from: LinkId, information: &[u8], given: &mut Given) -> PieceNow
-        requires { length information.now ≤ 1508 }
+        requires { length information.now ≤ MOST_FRAME }
         ensures mrru { self.new.mrru ≡ self.old.mrru }
         ensures stranger { (result ≡ PieceNow.Stranger) ↔ ¬ (IsJoined self.old from) }
         ensures bad_header { (result ≡ PieceNow.BadHeader) ↔ (IsJoined self.old from × (length information.now < 4)) }
@@ -143,7 +145,7 @@ fn no_counts() -> GatherCounts
 
 // The number of a piece and what stands behind its header. None under four octets.
 fn fragment_of(information: &[u8]) -> Option<(u32, WaitingPiece)>
-    requires { length information.now ≤ 1508 }
+    requires { length information.now ≤ MOST_FRAME }
     ensures some { IsSome result ↔ (4 ≤ length information.now) }
     ensures field { IfSome result (λ found. found.0 < long_space) }
     ensures is { IfSome result (λ found. fragment_of information.now ≡ arrived found.0 found.1) }

@@ -31,6 +31,6 @@ pub use cuts::{CutPiece, Cuts};
 pub use cutting::cut;
 pub use gather::Gather;
 pub use given::Given;
-pub use members::{LEAST_MRU, MemberView, Members};
+pub use members::{MemberView, Members};
 pub use packet::MOST_PACKET;
 pub use sending::Sending;

@@ -3,11 +3,8 @@ ghost use Rattle.std.specs.Bool.{OnTrue, OnFalse};
 ghost use Rattle.ppp_mp.specs.Members.{AreMembers, last_link};
 
 use arrayvec::ArrayVec;
-use ppp_base::LinkId;
+use ppp_base::{LEAST_MRU, LinkId};
 use std::marker::Model;
-
-/// The least octets of an information that the peer of a member takes.
-pub const LEAST_MRU: u16 = 128;
 
 /// A member of a bundle: its link, and the most octets of an information that its peer takes.
 #[derive(Clone, Copy, Debug, PartialEq, Eq)]

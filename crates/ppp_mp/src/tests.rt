@@ -1,6 +1,6 @@
 use super::*;
 use arrayvec::ArrayVec;
-use ppp_base::{Frame, LinkId};
+use ppp_base::{Frame, LEAST_MRU, LinkId};
 use std::alloc::{AllocError, Global};
 use std::process::Abort;
 use std::test::Fail;
