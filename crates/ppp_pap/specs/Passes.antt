@@ -3,11 +3,7 @@ use Rattle.std.specs.Prelude.{ℕ, ◌≡◌, ◌⊎◌, Bool, true, Option, Som
 use Rattle.std.specs.Str.{bytes_eq}
 use Rattle.ppp_secrets.specs.SecretLine.{SecretLine}
 use Rattle.ppp_secrets.specs.Lookup.{line_for}
-
--- what a request is judged against: the lines of the secrets, and our name
-pub record Against : Type 0 where
-  pub lines : List SecretLine
-  pub server : List ℕ
+use Rattle.ppp_proving.specs.Calls.{Against}
 
 -- The one of this name passes with this password, by the line with this number: it is the line for the two names, and its secret is empty or
 -- the password.

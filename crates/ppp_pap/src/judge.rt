@@ -1,7 +1,7 @@
 ghost use Rattle.std.specs.Prelude.{◌≡◌, [], ◌∷◌, List, Some, None, is_some, if◌then◌else◌};
 ghost use Rattle.ppp_packet.specs.declared.auth_out.AuthOutcome.TheVariants.{Waiting};
 ghost use Rattle.ppp_proving.specs.Calls.{Answered, AuthCall, begins, hears, ticks, answered, first_of};
-ghost use Rattle.ppp_pap.specs.Passes.{Against, passing_line};
+ghost use Rattle.ppp_pap.specs.Passes.{passing_line};
 ghost use Rattle.ppp_pap.specs.Judge.{StandsFor, judged, request_in, verdict_packet};
 
 use crate::packets::{
@@ -41,7 +41,7 @@ impl PapJudge {
     /// The authentication begins: the peer is to send its request.
     pub fn begin(&mut self, _now: u64) -> AuthOut
         ensures kept { self.new ≡ self.old }
-        ensures stands { (past : List (Answered Against)) → StandsFor self.old past → StandsFor self.new (answered _now begins result ∷ past) }
+        ensures stands { (past : List Answered) → StandsFor self.old past → StandsFor self.new (answered _now begins result ∷ past) }
     {
         AuthOut {
             packet: None,
@@ -50,14 +50,8 @@ impl PapJudge {
     }
 
     /// A packet of PAP came. `server` is our name. What is no request, or whose fields don't fill it exactly, is discarded.
-    pub fn heard(
-        &mut self,
-        packet: &Packet,
-        _now: u64,
-        secrets: &Secrets,
-        server: &Name,
-    ) -> AuthOut
-        ensures stands { (past : List (Answered Against)) → StandsFor self.old past
+    pub fn heard(&mut self, packet: &Packet, _now: u64, secrets: &Secrets, server: &Name) -> AuthOut
+        ensures stands { (past : List Answered) → StandsFor self.old past
             → StandsFor self.new (answered _now (hears packet.now (record { lines = secrets.now; server = server.now })) result ∷ past) }
     {
         let sent = self.take(packet, secrets, server);
@@ -70,12 +64,19 @@ impl PapJudge {
     /// Time has passed, which changes nothing here: the peer sends, and whoever owns the phase ends it.
     pub fn tick(&mut self, _now: u64) -> AuthOut
         ensures kept { self.new ≡ self.old }
-        ensures stands { (past : List (Answered Against)) → StandsFor self.old past → StandsFor self.new (answered _now ticks result ∷ past) }
+        ensures stands { (past : List Answered) → StandsFor self.old past → StandsFor self.new (answered _now ticks result ∷ past) }
     {
         AuthOut {
             packet: None,
             outcome: copied(&self.outcome),
         }
+    }
+
+    /// How it stands.
+    pub fn outcome(&self) -> &AuthOutcome
+        ensures { result.now ≡ self.now }
+    {
+        &self.outcome
     }
 
     // What a packet says, where nothing was said before, and the answer to it.
@@ -105,12 +106,7 @@ fn judged(request: Request<'_>, secrets: &Secrets, server: &Name) -> AuthOutcome
 }
 
 // The line by which the sender of a request passes.
-fn passing_line(
-    name: &Name,
-    password: &[u8],
-    secrets: &Secrets,
-    server: &Name,
-) -> Option<u32>
+fn passing_line(name: &Name, password: &[u8], secrets: &Secrets, server: &Name) -> Option<u32>
     ensures { result ≡ passing_line (record { lines = secrets.now; server = server.now }) name.now password.now }
 {
     let line = secrets.lookup(name, server)?;

@@ -7,7 +7,9 @@ use ppp_packet::{Body, Packet};
 
 /// The codes of PAP.
 pub const AUTHENTICATE_REQUEST: u8 = 1;
+
 pub const AUTHENTICATE_ACK: u8 = 2;
+
 pub const AUTHENTICATE_NAK: u8 = 3;
 
 /// The identifier of our request.

@@ -3,7 +3,6 @@ ghost use Rattle.ppp_packet.specs.declared.auth_out.AuthOutcome.TheVariants.{Wai
 ghost use Rattle.ppp_proving.specs.Calls.{Answered, AuthCall, begins, hears, ticks, answered, turned};
 ghost use Rattle.ppp_proving.specs.Resending.{sendings_of};
 ghost use Rattle.ppp_pap.specs.Packets.{request_packet};
-ghost use Rattle.ppp_pap.specs.Passes.{Against};
 ghost use Rattle.ppp_pap.specs.Peer.{StandsFor, answer_says};
 
 use crate::packets::{AUTHENTICATE_ACK, AUTHENTICATE_NAK, is_answer, our_request};
@@ -47,7 +46,7 @@ impl PapPeer {
     /// The authentication begins: the request goes out. A second beginning sends nothing.
     pub fn begin(&mut self, now: u64) -> AuthOut
         requires { now ≤ 2 ^ 56 }
-        ensures stands { (past : List (Answered Against)) → StandsFor self.old past → StandsFor self.new (answered now begins result ∷ past) }
+        ensures stands { (past : List Answered) → StandsFor self.old past → StandsFor self.new (answered now begins result ∷ past) }
     {
         let mut packet = None;
         if !self.own.is_begun() {
@@ -66,7 +65,7 @@ impl PapPeer {
         _secrets: &Secrets,
         _server: &Name,
     ) -> AuthOut
-        ensures stands { (past : List (Answered Against)) → StandsFor self.old past
+        ensures stands { (past : List Answered) → StandsFor self.old past
             → StandsFor self.new (answered _now (hears packet.now (record { lines = _secrets.now; server = _server.now })) result ∷ past) }
     {
         if self.own.is_begun() {
@@ -78,7 +77,7 @@ impl PapPeer {
     /// Time has passed: the request goes out again every 3 seconds, ten times in all, and is then given up.
     pub fn tick(&mut self, now: u64) -> AuthOut
         requires { now ≤ 2 ^ 56 }
-        ensures stands { (past : List (Answered Against)) → StandsFor self.old past → StandsFor self.new (answered now ticks result ∷ past) }
+        ensures stands { (past : List Answered) → StandsFor self.old past → StandsFor self.new (answered now ticks result ∷ past) }
     {
         let mut packet = None;
         if matches!(self.outcome, AuthOutcome::Waiting) {
@@ -94,6 +93,13 @@ impl PapPeer {
         self.says(packet)
     }
 
+    /// How it stands.
+    pub fn outcome(&self) -> &AuthOutcome
+        ensures { result.now ≡ self.now.outcome }
+    {
+        &self.outcome
+    }
+
     // What an answer to our request says.
     fn take(&mut self, packet: &Packet)
         ensures { self.new ≡ record self.old { outcome = turned self.old.outcome (answer_says self.old.name packet.now) } }
@@ -103,10 +109,7 @@ impl PapPeer {
                 self.outcome = AuthOutcome::Passed(self.name.copy(), 0);
             }
         } else if is_answer(AUTHENTICATE_NAK, packet)
-            && matches!(
-                self.outcome,
-                AuthOutcome::Waiting | AuthOutcome::Passed(..)
-            )
+            && matches!(self.outcome, AuthOutcome::Waiting | AuthOutcome::Passed(..))
         {
             self.outcome = AuthOutcome::Refused(self.name.copy());
         }
