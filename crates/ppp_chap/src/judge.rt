@@ -48,6 +48,7 @@ impl ChapJudge {
     /// The authentication begins: the challenge goes out. A second beginning sends nothing.
     pub fn begin(&mut self, now: u64) -> AuthOut
         requires { now ≤ 2 ^ 56 }
+        ensures kept { (self.new.name ≡ self.old.name) × (self.new.challenge ≡ self.old.challenge) }
         ensures stands { (past : List Answered) → StandsFor self.old past → StandsFor self.new (answered now begins result ∷ past) }
     {
         let mut packet = None;
@@ -62,6 +63,7 @@ impl ChapJudge {
     /// outcome each gets the same answer, and none after `Unanswered`. One whose size goes past it, or whose name is above 255 octets, is
     /// discarded.
     pub fn heard(&mut self, packet: &Packet, _now: u64, secrets: &Secrets, server: &Name) -> AuthOut
+        ensures kept { (self.new.name ≡ self.old.name) × (self.new.challenge ≡ self.old.challenge) }
         ensures stands { (past : List Answered) → StandsFor self.old past
             → StandsFor self.new (answered _now (hears packet.now (record { lines = secrets.now; server = server.now })) result ∷ past) }
     {
@@ -74,6 +76,7 @@ impl ChapJudge {
     /// Time has passed: the challenge goes out again every 3 seconds, ten times in all, and is then given up.
     pub fn tick(&mut self, now: u64) -> AuthOut
         requires { now ≤ 2 ^ 56 }
+        ensures kept { (self.new.name ≡ self.old.name) × (self.new.challenge ≡ self.old.challenge) }
         ensures stands { (past : List Answered) → StandsFor self.old past → StandsFor self.new (answered now ticks result ∷ past) }
     {
         let mut packet = None;

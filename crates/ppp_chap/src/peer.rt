@@ -56,6 +56,7 @@ impl ChapPeer {
     /// and where it is empty that in the challenge. A Success and a Failure count where they answer the last challenge that was
     /// answered, and a Failure after a Success too.
     pub fn heard(&mut self, packet: &Packet, _now: u64, secrets: &Secrets, server: &Name) -> AuthOut
+        ensures kept { (self.new.name ≡ self.old.name) × (self.new.password ≡ self.old.password) }
         ensures stands { (past : List Answered) → StandsFor self.old past
             → StandsFor self.new (answered _now (hears packet.now (record { lines = secrets.now; server = server.now })) result ∷ past) }
     {

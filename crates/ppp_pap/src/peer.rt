@@ -46,6 +46,7 @@ impl PapPeer {
     /// The authentication begins: the request goes out. A second beginning sends nothing.
     pub fn begin(&mut self, now: u64) -> AuthOut
         requires { now ≤ 2 ^ 56 }
+        ensures kept { (self.new.name ≡ self.old.name) × (self.new.password ≡ self.old.password) }
         ensures stands { (past : List Answered) → StandsFor self.old past → StandsFor self.new (answered now begins result ∷ past) }
     {
         let mut packet = None;
@@ -65,6 +66,7 @@ impl PapPeer {
         _secrets: &Secrets,
         _server: &Name,
     ) -> AuthOut
+        ensures kept { (self.new.name ≡ self.old.name) × (self.new.password ≡ self.old.password) }
         ensures stands { (past : List Answered) → StandsFor self.old past
             → StandsFor self.new (answered _now (hears packet.now (record { lines = _secrets.now; server = _server.now })) result ∷ past) }
     {
@@ -77,6 +79,7 @@ impl PapPeer {
     /// Time has passed: the request goes out again every 3 seconds, ten times in all, and is then given up.
     pub fn tick(&mut self, now: u64) -> AuthOut
         requires { now ≤ 2 ^ 56 }
+        ensures kept { (self.new.name ≡ self.old.name) × (self.new.password ≡ self.old.password) }
         ensures stands { (past : List Answered) → StandsFor self.old past → StandsFor self.new (answered now ticks result ∷ past) }
     {
         let mut packet = None;
