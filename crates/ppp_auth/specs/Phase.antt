@@ -52,3 +52,8 @@ pub record StandsFor (phase : AuthPhase) (past : List PhaseAt) : Type 0 where
   pub prover : ProverStands (setting_of phase) phase.prover past
   pub began : phase.began ≡ begun_at past
   pub outcome : phase.outcome ≡ outcome_in (setting_of phase) past
+
+-- the names that were told as passed, the last one first
+abbrev pub names_told : Setting → List PhaseAt → List (List ℕ)
+names_told s [] = []
+names_told s (c ∷ past) = option_to_list (told_at s c past).peer_passed ++ names_told s past

@@ -4,6 +4,7 @@
 
 mod config;
 mod judging;
+pub mod laws;
 mod out;
 mod outcome;
 mod phase;
@@ -14,4 +15,4 @@ mod tests;
 pub use config::AuthConfig;
 pub use out::{PhaseOut, PhasePackets, Sent};
 pub use outcome::AuthNow;
-pub use phase::AuthPhase;
+pub use phase::{AuthPhase, PHASE_MS};
