@@ -112,5 +112,5 @@ over_at_sixty s past began now since long =
     let still : begun_at (c ∷ past) ≡ Some began = ap (λ b. earlier b None) since in
     let late : is_over (Some began) now ≡ true = grind (arith, nat_tests) in
     let said : says s c past ≡ whole (passed_by s.peer_proves (peer_outcome s.peer_proves s (c ∷ past))) (lost_if true (side_where (peer_outcome s.peer_proves s (c ∷ past)))) (lost_if true (side_where (our_outcome s.we_prove s (c ∷ past)))) =
-      rw (still, late) refl in
+    rw (still, late) refl in
     later_over (outcome_in s past) (says s c past) (subst IsOver (sym said) (over_by s.peer_proves s (c ∷ past) (side_where (our_outcome s.we_prove s (c ∷ past)))))

@@ -17,5 +17,5 @@ pub told_by : (s : Setting) (c : PhaseAt) (past : List PhaseAt) (out : PhaseOut)
     → out.peer_passed ≡ cond waited (name_where (peer_outcome s.peer_proves s (c ∷ past))) None → out ≡ told_at s c past
 told_by s c past out waited judged proved j p w packets passed =
     ap₂ out_of
-      (packets ∙ ap₂ (λ x y. sent_by s.peer_proves x ++ sent_by s.we_prove y) j p)
-      (passed ∙ ap (λ b. cond b (name_where (peer_outcome s.peer_proves s (c ∷ past))) None) w)
+    (packets ∙ ap₂ (λ x y. sent_by s.peer_proves x ++ sent_by s.we_prove y) j p)
+    (passed ∙ ap (λ b. cond b (name_where (peer_outcome s.peer_proves s (c ∷ past))) None) w)

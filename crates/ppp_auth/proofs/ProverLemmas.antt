@@ -34,13 +34,13 @@ pap_begins s c past pair peer call out reach by (proves, none) known n st =
     let law = law_for s peer.name peer.password (answered c.now call out) [] n st.lawful.0 in
     let same : answered c.now call out ≡ pap_answers s peer.password [] c.now call = ap₂ (λ p o. entry c.now call p o) law.packet law.outcome in
     let list : answered c.now call out ∷ [] ≡ pap_in s (c ∷ past) =
-      ap (λ h. h ∷ []) same
-      ∙ ap (λ l. pap_answers s peer.password l c.now call ∷ l) (sym (none_seen s past none))
-      ∙ ap₂ (λ x r. pap_onto s x c.now r (pap_in s past)) (sym secret) (sym reach) in
+    ap (λ h. h ∷ []) same
+    ∙ ap (λ l. pap_answers s peer.password l c.now call ∷ l) (sym (none_seen s past none))
+    ∙ ap₂ (λ x r. pap_onto s x c.now r (pap_in s past)) (sym secret) (sym reach) in
     record {
       stands = (proves, ap (λ p. is_some p) first, secret, n, subst (λ l. StandsFor peer l) list st);
       sends = law.packet
-        ∙ ap (λ l. pap_packet s (Some peer.password) c.now (Some call) l) (sym (none_seen s past none))
-        ∙ ap₂ (λ x r. pap_packet s x c.now r (pap_in s past)) (sym secret) (sym reach)
-        ∙ sym (ap (λ m. prover_sends m s c past) proves);
+          ∙ ap (λ l. pap_packet s (Some peer.password) c.now (Some call) l) (sym (none_seen s past none))
+          ∙ ap₂ (λ x r. pap_packet s x c.now r (pap_in s past)) (sym secret) (sym reach)
+          ∙ sym (ap (λ m. prover_sends m s c past) proves);
     }

@@ -93,9 +93,9 @@ abbrev pub says : Setting → PhaseAt → List PhaseAt → AuthNow
 says s c past =
     if is_some (begun_at (c ∷ past))
     then whole
-      (passed_by s.peer_proves (peer_outcome s.peer_proves s (c ∷ past)))
-      (lost_if (is_late c.call (begun_at (c ∷ past)) c.now) (side_where (peer_outcome s.peer_proves s (c ∷ past))))
-      (lost_if (is_late c.call (begun_at (c ∷ past)) c.now) (side_where (our_outcome s.we_prove s (c ∷ past))))
+    (passed_by s.peer_proves (peer_outcome s.peer_proves s (c ∷ past)))
+    (lost_if (is_late c.call (begun_at (c ∷ past)) c.now) (side_where (peer_outcome s.peer_proves s (c ∷ past))))
+    (lost_if (is_late c.call (begun_at (c ∷ past)) c.now) (side_where (our_outcome s.we_prove s (c ∷ past))))
     else stands.Going
 
 abbrev pub outcome_in : Setting → List PhaseAt → AuthNow

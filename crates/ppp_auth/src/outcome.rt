@@ -46,13 +46,7 @@ impl Side {
         ensures { result ≡ lost_if is_over self }
     {
         match self {
-            Side::Going => {
-                if is_over {
-                    Side::Lost
-                } else {
-                    Side::Going
-                }
-            }
+            Side::Going => { if is_over { Side::Lost } else { Side::Going } }
             side => side,
         }
     }

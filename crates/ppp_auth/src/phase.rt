@@ -107,7 +107,9 @@ impl AuthPhase {
         ensures kept { setting_of self.new ≡ setting_of self.old }
     {
         let waited = self.waits();
-        let judged = self.judge.heard(protocol, packet, now, secrets, &self.config.name);
+        let judged = self
+            .judge
+            .heard(protocol, packet, now, secrets, &self.config.name);
         let server = server(&self.config);
         let proved = self.prover.heard(protocol, packet, now, secrets, &server);
         self.settle(false);
@@ -214,9 +216,7 @@ impl AuthPhase {
             packets.push(sent(method, packet));
         }
         let mut peer_passed = None;
-        if waited
-            && let Some(AuthOutcome::Passed(name, _)) = self.judge.outcome()
-        {
+        if waited && let Some(AuthOutcome::Passed(name, _)) = self.judge.outcome() {
             peer_passed = Some(name.copy());
         }
         PhaseOut {

@@ -14,5 +14,5 @@ returns-clause-told c past st =
     let proved = c.heard-proved.ensures s past (sym c.server-server.ensures) st.prover in
     let stands = subst (λ x. JudgeStands (setting_of x) x.judge (at ∷ past)) (sym c.settle.ensures.kept) judged.stands in
     told_by s at past c.tells.result c.waits-waited.result c.heard-judged.result c.heard-proved.result judged.sends proved.sends (c.waits-waited.ensures past st.judge)
-      (c.tells.ensures.packets ∙ ap (λ x. sent_by x.peer_proves c.heard-judged.result ++ sent_by x.we_prove c.heard-proved.result) c.settle.ensures.kept)
-      (c.tells.ensures.peer_passed (at ∷ past) stands ∙ ap (λ x. cond c.waits-waited.result (name_where (peer_outcome x.peer_proves (setting_of x) (at ∷ past))) None) c.settle.ensures.kept)
+    (c.tells.ensures.packets ∙ ap (λ x. sent_by x.peer_proves c.heard-judged.result ++ sent_by x.we_prove c.heard-proved.result) c.settle.ensures.kept)
+    (c.tells.ensures.peer_passed (at ∷ past) stands ∙ ap (λ x. cond c.waits-waited.result (name_where (peer_outcome x.peer_proves (setting_of x) (at ∷ past))) None) c.settle.ensures.kept)

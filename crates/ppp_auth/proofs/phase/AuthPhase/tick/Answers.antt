@@ -14,5 +14,5 @@ returns-clause-told c past st =
     let proved = c.tick-proved.ensures s past st.prover in
     let stands = subst (λ x. JudgeStands (setting_of x) x.judge (at ∷ past)) (sym c.settle.ensures.kept) judged.stands in
     told_by s at past c.tells.result c.waits-waited.result c.tick-judged.result c.tick-proved.result judged.sends proved.sends (c.waits-waited.ensures past st.judge)
-      (c.tells.ensures.packets ∙ ap (λ x. sent_by x.peer_proves c.tick-judged.result ++ sent_by x.we_prove c.tick-proved.result) c.settle.ensures.kept)
-      (c.tells.ensures.peer_passed (at ∷ past) stands ∙ ap (λ x. cond c.waits-waited.result (name_where (peer_outcome x.peer_proves (setting_of x) (at ∷ past))) None) c.settle.ensures.kept)
+    (c.tells.ensures.packets ∙ ap (λ x. sent_by x.peer_proves c.tick-judged.result ++ sent_by x.we_prove c.tick-proved.result) c.settle.ensures.kept)
+    (c.tells.ensures.peer_passed (at ∷ past) stands ∙ ap (λ x. cond c.waits-waited.result (name_where (peer_outcome x.peer_proves (setting_of x) (at ∷ past))) None) c.settle.ensures.kept)
