@@ -1,0 +1,4 @@
+pub mod OutcomeLemmas
+pub mod PhaseLemmas
+pub mod ProverLemmas
+pub mod Rows

@@ -1,0 +1,5 @@
+pub mod Judged
+pub mod Outcome
+pub mod Phase
+pub mod Proved
+pub mod Setting

@@ -1,0 +1,179 @@
+use super::*;
+use ppp_base::{Allow, DEFAULT_MAP, Name, SendSettings, protocol};
+use ppp_packet::{Agreed, Body, Method, Packet};
+use ppp_secrets::{Secrets, SecretsPair};
+use std::alloc::Global;
+use std::test::Fail;
+
+const CHALLENGE: [u8; 16] = [7; 16];
+
+// By Python's hashlib: the MD5 of 01, `word` and sixteen octets 07.
+const RIGHT: [u8; 16] = [
+    0xc7, 0xc4, 0x05, 0x91, 0x57, 0x5c, 0x96, 0x3a, 0xe6, 0x58, 0xc1, 0x6d, 0x6d, 0x52, 0xb1, 0x88,
+];
+
+// The same of 09, `ours`, and 01 02 03.
+const OURS: [u8; 16] = [
+    0x9f, 0x4e, 0x53, 0x32, 0x7c, 0x6e, 0x88, 0x9d, 0x57, 0x97, 0x6a, 0x50, 0x3f, 0x73, 0xad, 0xd1,
+];
+
+fn name(text: &str) -> Name {
+    match Name::from_octets(text.as_bytes()) {
+        Some(name) => name,
+        None => Name::new(),
+    }
+}
+
+fn packet(code: u8, id: u8, body: &[u8]) -> Packet {
+    match Body::from_octets(body) {
+        Some(body) => Packet { code, id, body },
+        None => Packet::default(),
+    }
+}
+
+fn agreed(method: Option<Method>) -> Agreed {
+    Agreed {
+        we_prove: method,
+        peer_proves: method,
+        peer_mru: 1500,
+        mrru: None,
+        disc: None,
+        send: SendSettings::plain(),
+        receive_map: DEFAULT_MAP,
+    }
+}
+
+fn phase(method: Option<Method>) -> AuthPhase {
+    let config = AuthConfig {
+        name: name("srv"),
+        user: name("us"),
+        password: None,
+        remotename: None,
+    };
+    AuthPhase::new(&agreed(method), config, CHALLENGE)
+}
+
+fn secrets(alloc: Global) -> Result<SecretsPair, Fail> {
+    Ok(SecretsPair {
+        pap: Secrets::read(alloc, b"bob srv two *\nus * pw *\n")?,
+        chap: Secrets::read(alloc, b"# a comment\nbob srv word *\nus peer ours *\n")?,
+    })
+}
+
+// A challenge's or response's data.
+fn valued(value: &[u8], name: &str) -> Body {
+    let mut body = Body::new();
+    if value.len() <= 16 && name.len() <= 16 {
+        body.push(value.len() as u8);
+        body.append(value);
+        body.append(name.as_bytes());
+    }
+    body
+}
+
+fn is_passed(outcome: &AuthNow, line: Allow) -> bool {
+    match outcome {
+        AuthNow::Passed { peer, allow } => *peer == Some(name("bob")) && *allow == line,
+        _ => false,
+    }
+}
+
+#[test]
+fn both_by_chap_in_both_orders(rt: HostRuntime) -> Result<(), Fail> {
+    let pair = secrets(rt.alloc())?;
+    let challenge = Packet {
+        code: 1,
+        id: 9,
+        body: valued(&[1, 2, 3], "peer"),
+    };
+    let response = Packet {
+        code: 2,
+        id: 1,
+        body: valued(&RIGHT, "bob"),
+    };
+    let success = packet(3, 9, &[]);
+    for first in [true, false] {
+        let mut phase = phase(Some(Method::Chap));
+        let begun = phase.begin(0, &pair);
+        let ours = begun.packets.as_slice();
+        assert!(rt; ours.len() == 1 && ours[0].protocol == protocol::CHAP);
+        assert!(rt; ours[0].packet.body == valued(&CHALLENGE, "srv"));
+        let answered = phase.heard(protocol::CHAP, &challenge, 1, &pair);
+        let sent = answered.packets.as_slice();
+        assert!(rt; sent.len() == 1 && sent[0].packet.body == valued(&OURS, "us"));
+        let order = if first {
+            [&response, &success]
+        } else {
+            [&success, &response]
+        };
+        let one = phase.heard(protocol::CHAP, order[0], 2, &pair);
+        assert!(rt; matches!(phase.outcome(), AuthNow::Going));
+        let two = phase.heard(protocol::CHAP, order[1], 3, &pair);
+        let told = if first { (one, two) } else { (two, one) };
+        assert!(rt; told.0.peer_passed == Some(name("bob")) && told.1.peer_passed.is_none());
+        assert!(rt; told.0.packets.as_slice()[0].packet == packet(3, 1, &[]));
+        assert!(rt; is_passed(&phase.outcome(), Allow::Chap(2)));
+        let _failed = phase.heard(protocol::CHAP, &packet(4, 9, &[]), 4, &pair);
+        assert!(rt; matches!(phase.outcome(), AuthNow::WeFailed));
+    }
+    Ok(())
+}
+
+#[test]
+fn both_by_pap(rt: HostRuntime) -> Result<(), Fail> {
+    let pair = secrets(rt.alloc())?;
+    let mut phase = phase(Some(Method::Pap));
+    let begun = phase.begin(0, &pair);
+    let ours = begun.packets.as_slice();
+    assert!(rt; ours[0].protocol == protocol::PAP);
+    assert!(rt; ours[0].packet == packet(1, 1, b"\x02us\x02pw"));
+    let none = phase.heard(protocol::CHAP, &packet(1, 5, b"\x03bob\x03two"), 1, &pair);
+    assert!(rt; none.packets.as_slice().is_empty());
+    let passed = phase.heard(protocol::PAP, &packet(1, 5, b"\x03bob\x03two"), 1, &pair);
+    assert!(rt; passed.packets.as_slice()[0].packet == packet(2, 5, &[0]));
+    assert!(rt; passed.peer_passed == Some(name("bob")));
+    let _acked = phase.heard(protocol::PAP, &packet(2, 1, &[0]), 2, &pair);
+    assert!(rt; is_passed(&phase.outcome(), Allow::Pap(1)));
+    Ok(())
+}
+
+#[test]
+fn sixty_seconds(rt: HostRuntime) -> Result<(), Fail> {
+    let pair = secrets(rt.alloc())?;
+    let mut waiting = phase(Some(Method::Pap));
+    let _begun = waiting.begin(0, &pair);
+    let again = waiting.tick(3000);
+    assert_eq!(rt; again.packets.as_slice().len(), 1);
+    let _tick = waiting.tick(59_999);
+    assert!(rt; matches!(waiting.outcome(), AuthNow::Going));
+    let _tick = waiting.tick(60_000);
+    assert!(rt; matches!(waiting.outcome(), AuthNow::PeerFailed));
+    Ok(())
+}
+
+#[test]
+fn nobody_and_no_secret(rt: HostRuntime) -> Result<(), Fail> {
+    let none = SecretsPair {
+        pap: Secrets::read(rt.alloc(), b"")?,
+        chap: Secrets::read(rt.alloc(), b"")?,
+    };
+    let mut free = phase(None);
+    assert!(rt; matches!(free.outcome(), AuthNow::Going));
+    let _begun = free.begin(0, &none);
+    assert!(rt;
+        matches!(
+            free.outcome(),
+            AuthNow::Passed {
+                peer: None,
+                allow: Allow::Any
+            }
+        )
+    );
+    let mut poor = phase(Some(Method::Pap));
+    let _begun = poor.begin(0, &none);
+    assert!(rt; matches!(poor.outcome().copy(), AuthNow::WeFailed));
+    laws::the_peer_passes_once();
+    laws::outcomes_stay();
+    laws::sixty_seconds_at_most();
+    Ok(())
+}

@@ -1,0 +1,4 @@
+pub mod Judge
+pub mod Packets
+pub mod Passes
+pub mod Peer
