@@ -1,0 +1,4 @@
+pub mod JudgeLemmas
+pub mod PacketLemmas
+pub mod PeerLemmas
+pub mod PeerRuns
