@@ -1,5 +1,5 @@
 -- A judge's outcome is what the first response says, or that none came.
-use Rattle.std.proofs.Common.{◌≡◌, ℕ, ◌+◌, ◌<◌, ◌≤◌, Bool, true, false, ◌⊎◌, inl, inr, List, [], ◌∷◌, ◌++◌, length, Option, None, Some, refl, sym, ap, ◌∙◌, subst, arith}
+use Rattle.std.proofs.Common.{◌≡◌, ℕ, ◌+◌, ◌≤◌, Bool, true, false, ◌⊎◌, inl, inr, List, [], ◌∷◌, ◌++◌, length, Option, None, Some, refl, sym, ap, ◌∙◌, subst, arith}
 use Rattle.std.specs.Prelude.{◌==◌, ◌&&◌, is_some, if◌then◌else◌}
 use Rattle.std.proofs.lemmas.Bool.{and_parts}
 use Rattle.std.proofs.lemmas.Bool.Decides.{Decides-eqb}
@@ -12,10 +12,10 @@ use Rattle.ppp_proving.specs.Resending.{again_at, last_of, unanswered}
 use Rattle.ppp_proving.specs.Which.{NoneOf, IsFirst, Tires}
 use Rattle.ppp_proving.proofs.Judging.{Judges, waiting_none, none_waiting, stays, first_says, said_first}
 use Rattle.ppp_proving.proofs.Sending.{Few, none_few, begin_few, tick_few, first_is, again_is, time_says}
-use Rattle.ppp_chap.specs.Packets.{challenge_packet, response_packet, valued_body, valued_of}
+use Rattle.ppp_chap.specs.Packets.{challenge_packet, response_packet, valued_of}
 use Rattle.ppp_chap.specs.Passes.{Passes, passing_line}
-use Rattle.ppp_chap.specs.Judge.{AreLawful, judged, judged_by, outcome_in, response_in, said_by, sends, verdict_packet}
-use Rattle.ppp_chap.specs.Responses.{FirstResponds, FirstTires, IsKnown, IsResponse, Responds}
+use Rattle.ppp_chap.specs.Judge.{AreLawful, judged, judged_by, outcome_in, response_in, said_by, sends}
+use Rattle.ppp_chap.specs.Responses.{FirstResponds, FirstTires, IsKnown, Responds}
 use Rattle.ppp_chap.proofs.PacketLemmas.{body_is_valued, valued_is_body}
 use Rattle.ppp_chap.proofs.PassesLemmas.{told_passes, passes_told, none_passes, passes_none}
 
@@ -70,6 +70,7 @@ heard_learnt challenge now p a packet outcome past = by_sent (sent_at past) refl
         let read : response_in p ≡ Some (k.value, k.name) = ap response_in packets ∙ body_is_valued k.value k.name k.responds.fits in
         absurd (cc (e, read))
     not_read e (inr t) = not_tired now p a packet outcome past t
+
     read_is : (response : List ℕ × List ℕ) → response_in p ≡ Some response → Responds (hears p a) a response.1 response.0
     read_is response e = go (p.code == 2 && p.id == 1) refl e
       where
@@ -79,11 +80,12 @@ heard_learnt challenge now p a packet outcome past = by_sent (sent_at past) refl
             let tests = and_parts (p.code == 2) (p.id == 1) t in
             let body = valued_is_body p.body response.0 response.1 e in
             let packets : p ≡ response_packet 1 response.0 response.1 =
-                ap (λ n. record { code = n; id = p.id; body = p.body }) ((Decides-eqb p.code 2).0 tests.0)
-                ∙ ap (λ n. record { code = 2; id = n; body = p.body }) ((Decides-eqb p.id 1).0 tests.1)
-                ∙ ap (λ octets. record { code = 2; id = 1; body = octets }) body.0
+            ap (λ n. record { code = n; id = p.id; body = p.body }) ((Decides-eqb p.code 2).0 tests.0)
+            ∙ ap (λ n. record { code = 2; id = n; body = p.body }) ((Decides-eqb p.id 1).0 tests.1)
+            ∙ ap (λ octets. record { code = 2; id = 1; body = octets }) body.0
             in
             record { heard = ap (λ q. hears q a) packets; fits = body.1 }
+
     by_found : (last : ℕ) (earlier : List ℕ) → sent_at past ≡ last ∷ earlier → (found : Option (List ℕ × List ℕ)) → response_in p ≡ found
         → Learnt challenge (record { now = now; call = hears p a; packet = packet; outcome = outcome }) past (judged challenge a found)
         ⊎ Unlearnt (record { now = now; call = hears p a; packet = packet; outcome = outcome }) past (judged challenge a found)
@@ -98,6 +100,7 @@ heard_learnt challenge now p a packet outcome past = by_sent (sent_at past) refl
       });
       speaks = judged_known response.1 _;
     })
+
     by_sent : (sent : List ℕ) → sent_at past ≡ sent
         → Learnt challenge (record { now = now; call = hears p a; packet = packet; outcome = outcome }) past (where_sent sent (judged challenge a (response_in p)))
         ⊎ Unlearnt (record { now = now; call = hears p a; packet = packet; outcome = outcome }) past (where_sent sent (judged challenge a (response_in p)))
@@ -152,10 +155,12 @@ judges challenge = record {
         → said_by challenge (sent_at past) h.now h.call ≡ Waiting
     quiet h past unknown (inl l) = absurd (unknown l.known)
     quiet h past unknown (inr u) = u.silent
+
     loud : (h : Answered) (past : List Answered) → said_by challenge (sent_at past) h.now h.call ≡ Waiting → IsKnown h past
         → Learnt challenge h past (said_by challenge (sent_at past) h.now h.call) ⊎ Unlearnt h past (said_by challenge (sent_at past) h.now h.call) → ⊥
     loud h past e known (inl l) = l.speaks e
     loud h past e known (inr u) = u.unknown known
+
     decided : (h : Answered) (past : List Answered) → is_waiting (said_by challenge (sent_at past) h.now h.call) ≡ false
         → Learnt challenge h past (said_by challenge (sent_at past) h.now h.call) ⊎ Unlearnt h past (said_by challenge (sent_at past) h.now h.call) → IsKnown h past
     decided h past e (inl l) = l.known

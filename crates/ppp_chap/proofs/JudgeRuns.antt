@@ -1,7 +1,6 @@
 -- Runs of a judge of CHAP.
 use Rattle.std.proofs.Common.{◌≡◌, ℕ, ◌≤◌, List, [], ◌∷◌, length, None, Some, refl, sym, ap, ◌∙◌, arith}
 use Rattle.std.specs.Prelude.{codes, is_some, Option, if◌then◌else◌}
-use Rattle.ppp_packet.specs.declared.packet.Packet.{Packet}
 use Rattle.ppp_packet.specs.declared.auth_out.AuthOutcome.{AuthOutcome}
 use Rattle.ppp_packet.specs.declared.auth_out.AuthOutcome.TheVariants.{Waiting, Passed, Refused, Unanswered}
 use Rattle.ppp_secrets.specs.SecretLine.{SecretLine}
@@ -29,12 +28,17 @@ one_response_runs : (our_name challenge : List ℕ) (a : Against) (name value : 
     → AreLawful our_name challenge (one_response our_name challenge a name value outcome) × (outcome_in challenge (one_response our_name challenge a name value outcome) ≡ outcome)
 one_response_runs our_name challenge a name value outcome fits e =
     let read = body_is_valued value name fits in
-    let is : outcome_in challenge (one_response our_name challenge a name value outcome) ≡ outcome = ap (judged challenge a) read ∙ e in
-    ((record {
-       outcome = sym is;
-       packet = ap verdict_packet (sym is)
-           ∙ sym (ap (λ (found : Option (List ℕ × List ℕ)). if is_some found then verdict_packet (outcome_in challenge (one_response our_name challenge a name value outcome)) else None) read);
-     }, (record { outcome = refl; packet = refl }, tt)), is)
+    let is : outcome_in challenge (one_response our_name challenge a name value outcome) ≡ outcome = ap (judged challenge a) read ∙ e in (
+      (
+        record {
+          outcome = sym is;
+          packet = ap verdict_packet (sym is)
+              ∙ sym (ap (λ (found : Option (List ℕ × List ℕ)). if is_some found then verdict_packet (outcome_in challenge (one_response our_name challenge a name value outcome)) else None) read);
+        },
+        (record { outcome = refl; packet = refl }, tt),
+      ),
+      is,
+    )
 
 pub passing_run : (our_name challenge : List ℕ) (a : Against) (name value : List ℕ) (number : ℕ) → length name ≤ 255 → Passes a challenge name value number
     → (past : List Answered) × AreLawful our_name challenge past × (outcome_in challenge past ≡ Passed name number)
@@ -51,16 +55,16 @@ refusing_run our_name challenge a name value fits never =
 pub unanswered_run : (our_name challenge : List ℕ) → (past : List Answered) × AreLawful our_name challenge past × (outcome_in challenge past ≡ Unanswered 10)
 unanswered_run our_name challenge = (
   record { now = 30000; call = ticks; packet = None; outcome = Unanswered 10 }
-  ∷ sent_again our_name challenge 27000
-  ∷ sent_again our_name challenge 24000
-  ∷ sent_again our_name challenge 21000
-  ∷ sent_again our_name challenge 18000
-  ∷ sent_again our_name challenge 15000
-  ∷ sent_again our_name challenge 12000
-  ∷ sent_again our_name challenge 9000
-  ∷ sent_again our_name challenge 6000
-  ∷ sent_again our_name challenge 3000
-  ∷ begun our_name challenge ∷ [],
+      ∷ sent_again our_name challenge 27000
+      ∷ sent_again our_name challenge 24000
+      ∷ sent_again our_name challenge 21000
+      ∷ sent_again our_name challenge 18000
+      ∷ sent_again our_name challenge 15000
+      ∷ sent_again our_name challenge 12000
+      ∷ sent_again our_name challenge 9000
+      ∷ sent_again our_name challenge 6000
+      ∷ sent_again our_name challenge 3000
+      ∷ begun our_name challenge ∷ [],
   (record { outcome = refl; packet = refl }, (record { outcome = refl; packet = refl }, (record { outcome = refl; packet = refl }, (record { outcome = refl; packet = refl }, (record { outcome = refl; packet = refl }, (record { outcome = refl; packet = refl }, (record { outcome = refl; packet = refl }, (record { outcome = refl; packet = refl }, (record { outcome = refl; packet = refl }, (record { outcome = refl; packet = refl }, (record { outcome = refl; packet = refl }, tt))))))))))),
   refl,
 )

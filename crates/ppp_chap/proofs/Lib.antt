@@ -4,3 +4,4 @@ pub mod PacketLemmas
 pub mod PassesLemmas
 pub mod PeerLemmas
 pub mod PeerRuns
+mod Rows

@@ -1,5 +1,5 @@
 -- The outcome of one who proves himself by CHAP, by which calls tell it.
-use Rattle.std.proofs.Common.{◌≡◌, ℕ, ◌≤◌, Bool, true, false, ◌⊎◌, inl, inr, List, [], ◌∷◌, length, Option, None, Some, refl, sym, ap, ◌∙◌, subst, arith}
+use Rattle.std.proofs.Common.{◌≡◌, ℕ, Bool, true, false, ◌⊎◌, inl, inr, List, [], ◌∷◌, Option, None, Some, refl, sym, ap, ◌∙◌, subst, arith}
 use Rattle.std.specs.Prelude.{◌==◌, ◌&&◌, option_map, if◌then◌else◌}
 use Rattle.std.proofs.lemmas.Bool.{and_from, and_parts}
 use Rattle.std.proofs.lemmas.Bool.Decides.{Decides-eqb}
@@ -111,9 +111,10 @@ none_read : (name : List ℕ) (password : Option (List ℕ)) (now : ℕ) (p : Pa
     → (p.code ≡ 1) × (no_secret name password a (valued_of p.body) ≡ Refused name)
 none_read name password now p a packet outcome past n =
     let both = challenge_code (hears p a) p a n.against n.id n.value n.challenger refl n.challenges in
-    let read : valued_of p.body ≡ Some (n.value, n.challenger) = ap (λ (q : Packet). valued_of q.body) both.0 ∙ body_is_valued n.value n.challenger n.challenges.fits in
-    (ap (λ (q : Packet). q.code) both.0,
-     ap (no_secret name password a) read ∙ ap (λ (b : Against). where_none name (secret_for password name b n.challenger)) both.1 ∙ ap (where_none name) n.none)
+    let read : valued_of p.body ≡ Some (n.value, n.challenger) = ap (λ (q : Packet). valued_of q.body) both.0 ∙ body_is_valued n.value n.challenger n.challenges.fits in (
+      ap (λ (q : Packet). q.code) both.0,
+      ap (no_secret name password a) read ∙ ap (λ (b : Against). where_none name (secret_for password name b n.challenger)) both.1 ∙ ap (where_none name) n.none,
+    )
 
 challenge_says : (name : List ℕ) (password : Option (List ℕ)) (now : ℕ) (p : Packet) (a : Against) (packet : Option Packet) (outcome : AuthOutcome) (past : List Answered)
     → p.code ≡ 1 → Says name password (record { now = now; call = hears p a; packet = packet; outcome = outcome }) past (no_secret name password a (valued_of p.body))
@@ -121,18 +122,21 @@ challenge_says name password now p a packet outcome past one = by_found (valued_
   where
     not_told : (code : ℕ) → (1 ≡ code → ⊥) → Tells code (record { now = now; call = hears p a; packet = packet; outcome = outcome }) past → ⊥
     not_told code differ t = differ (sym one ∙ (tells_code code now p a packet outcome past t).0)
+
     not_bad : no_secret name password a (valued_of p.body) ≡ Waiting → Rejects name password (record { now = now; call = hears p a; packet = packet; outcome = outcome }) past → ⊥
     not_bad e (inl t) = not_told 4 (λ wrong. absurd (omega arith)) t
     not_bad e (inr n) = let refused = (none_read name password now p a packet outcome past n).1 in absurd (cc (e, refused))
+
     quiet : no_secret name password a (valued_of p.body) ≡ Waiting
         → SaysNothing name password (record { now = now; call = hears p a; packet = packet; outcome = outcome }) past Waiting
     quiet e = record { is = refl; not_good = not_told 3 (λ wrong. absurd (omega arith)); not_bad = not_bad e }
+
     by_secret : (found : List ℕ × List ℕ) → valued_of p.body ≡ Some found → (secret : Option (List ℕ)) → secret_for password name a found.1 ≡ secret
         → Says name password (record { now = now; call = hears p a; packet = packet; outcome = outcome }) past (where_none name secret)
     by_secret found f None s =
         let body = valued_is_body p.body found.0 found.1 f in
         let packets : p ≡ record { code = 1; id = p.id; body = valued_body found.0 found.1 } =
-            ap (λ n. record { code = n; id = p.id; body = p.body }) one ∙ ap (λ octets. record { code = 1; id = p.id; body = octets }) body.0 in
+        ap (λ n. record { code = n; id = p.id; body = p.body }) one ∙ ap (λ octets. record { code = 1; id = p.id; body = octets }) body.0 in
         inr (inr (record {
           is = refl;
           bad = inr (record {
@@ -145,6 +149,7 @@ challenge_says name password now p a packet outcome past one = by_found (valued_
           });
         }))
     by_secret found f (Some secret) s = inl (quiet (ap (no_secret name password a) f ∙ ap (where_none name) s))
+
     by_found : (found : Option (List ℕ × List ℕ)) → valued_of p.body ≡ found
         → Says name password (record { now = now; call = hears p a; packet = packet; outcome = outcome }) past (no_secret name password a found)
     by_found None f = inl (quiet (ap (no_secret name password a) f))
@@ -161,12 +166,15 @@ heard_says name password now p a packet outcome past =
         let told = tells_code code now p a packet outcome past t in
         let is : (p.code == code && is_id (last_answered past) p.id) ≡ true = and_from (p.code == code) (is_id (last_answered past) p.id) ((Decides-eqb p.code code).1 told.0) told.1 in
         absurd (cc (e, is))
+
     asked : (p.code == 1) ≡ false → HasNone name password (record { now = now; call = hears p a; packet = packet; outcome = outcome }) past → ⊥
     asked e n = let is = (Decides-eqb p.code 1).1 (none_read name password now p a packet outcome past n).0 in absurd (cc (e, is))
+
     not_bad : (p.code == 1) ≡ false → (p.code == 4 && is_id (last_answered past) p.id) ≡ false
         → Rejects name password (record { now = now; call = hears p a; packet = packet; outcome = outcome }) past → ⊥
     not_bad c f (inl t) = untold 4 f t
     not_bad c f (inr n) = asked c n
+
     not_both : (p.code == 3 && is_id (last_answered past) p.id) ≡ true → (p.code == 1) ≡ false
         → Rejects name password (record { now = now; call = hears p a; packet = packet; outcome = outcome }) past → ⊥
     not_both s c (inl t) =
@@ -174,10 +182,11 @@ heard_says name password now p a packet outcome past =
         let four : p.code ≡ 4 = (tells_code 4 now p a packet outcome past t).0 in
         absurd (omega (arith, three, four))
     not_both s c (inr n) = asked c n
+
     by_code : (challenge : Bool) → (p.code == 1) ≡ challenge → (success : Bool) → (p.code == 3 && is_id (last_answered past) p.id) ≡ success
         → (failure : Bool) → (p.code == 4 && is_id (last_answered past) p.id) ≡ failure
         → Says name password (record { now = now; call = hears p a; packet = packet; outcome = outcome }) past
-          (if challenge then no_secret name password a (if challenge then valued_of p.body else None) else if success then Passed name 0 else if failure then Refused name else Waiting)
+        (if challenge then no_secret name password a (if challenge then valued_of p.body else None) else if success then Passed name 0 else if failure then Refused name else Waiting)
     by_code true c success s failure f = challenge_says name password now p a packet outcome past ((Decides-eqb p.code 1).0 c)
     by_code false c true s failure f = inr (inl (record { is = refl; good = code_tells 3 now p a packet outcome past s; not_bad = not_both s c }))
     by_code false c false s true f = inr (inr (record { is = refl; bad = inl (code_tells 4 now p a packet outcome past f) }))

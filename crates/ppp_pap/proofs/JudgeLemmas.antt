@@ -1,7 +1,6 @@
 -- A judge's outcome is what the first request says.
 use Rattle.std.proofs.Common.{◌≡◌, ℕ, Bool, true, false, ◌⊎◌, inl, inr, List, [], ◌∷◌, ◌++◌, Option, None, Some, refl, sym, ap, ◌∙◌, subst}
 use Rattle.std.specs.Prelude.{codes, ◌==◌, is_some, if◌then◌else◌}
-use Rattle.std.specs.Str.{bytes_eq}
 use Rattle.std.proofs.lemmas.Slice.Eq.{bytes_eq-Decides}
 use Rattle.std.proofs.lemmas.Bool.Decides.{Decides-eqb}
 use Rattle.ppp_packet.specs.declared.packet.Packet.{Packet}
@@ -9,12 +8,12 @@ use Rattle.ppp_packet.specs.declared.auth_out.AuthOutcome.{AuthOutcome}
 use Rattle.ppp_packet.specs.declared.auth_out.AuthOutcome.TheVariants.{Waiting, Passed, Refused, Unanswered}
 use Rattle.ppp_secrets.specs.SecretLine.{SecretLine}
 use Rattle.ppp_secrets.specs.Lookup.{line_for}
-use Rattle.ppp_proving.specs.Calls.{Against, AuthCall, begins, hears, ticks, Answered, first_of, is_waiting}
-use Rattle.ppp_proving.specs.Which.{NoneOf, IsFirst}
+use Rattle.ppp_proving.specs.Calls.{Against, AuthCall, begins, hears, ticks, Answered, is_waiting}
+use Rattle.ppp_proving.specs.Which.{NoneOf}
 use Rattle.ppp_proving.proofs.Judging.{Judges, waiting_none, none_waiting, stays, first_says, said_first}
-use Rattle.ppp_pap.specs.Packets.{request_body, request_of, answer_packet}
+use Rattle.ppp_pap.specs.Packets.{request_body, request_of}
 use Rattle.ppp_pap.specs.Passes.{Passes, lets_in, passing, passing_line}
-use Rattle.ppp_pap.specs.Judge.{AreLawful, judged, judged_by, outcome_in, request_in, said_by, verdict_packet}
+use Rattle.ppp_pap.specs.Judge.{AreLawful, judged, judged_by, outcome_in, said_by, verdict_packet}
 use Rattle.ppp_pap.specs.Requests.{Asks, FirstAsks, IsRequest}
 use Rattle.ppp_pap.proofs.PacketLemmas.{body_is_read, read_is_body}
 
@@ -75,11 +74,13 @@ requested (hears p a) = go (p.code == 1) refl (request_of p.body) refl
         let packets : p ≡ record { code = 1; id = r.asks.id; body = request_body r.name r.password } = cc (r.asks.heard) in
         let one : (p.code == 1) ≡ true = (Decides-eqb p.code 1).1 (ap (λ (q : Packet). q.code) packets) in
         absurd (cc (t, one))
+
     no_body : request_of p.body ≡ None → Requested (hears p a) → ⊥
     no_body f r =
         let packets : p ≡ record { code = 1; id = r.asks.id; body = request_body r.name r.password } = cc (r.asks.heard) in
         let read : request_of p.body ≡ Some (r.name, r.password) = ap (λ (q : Packet). request_of q.body) packets ∙ body_is_read r.name r.password in
         absurd (cc (f, read))
+
     go : (test : Bool) → (p.code == 1) ≡ test → (found : Option (List ℕ × List ℕ)) → request_of p.body ≡ found →
         ((said_by (hears p a) ≡ Waiting) × (Requested (hears p a) → ⊥)) ⊎ Requested (hears p a)
     go false t found f = inl (ap (λ b. judged a (if b then request_of p.body else None)) t, no_code t)
@@ -88,7 +89,7 @@ requested (hears p a) = go (p.code == 1) refl (request_of p.body) refl
         let codes_are : p.code ≡ 1 = (Decides-eqb p.code 1).0 t in
         let body_is : p.body ≡ request_body request.0 request.1 = read_is_body p.body request.0 request.1 f in
         let packet_is : p ≡ record { code = 1; id = p.id; body = request_body request.0 request.1 } =
-            ap (λ code. record { code = code; id = p.id; body = p.body }) codes_are ∙ ap (λ body. record { code = 1; id = p.id; body = body }) body_is in
+        ap (λ code. record { code = code; id = p.id; body = p.body }) codes_are ∙ ap (λ body. record { code = 1; id = p.id; body = body }) body_is in
         inr (record { against = a; name = request.0; password = request.1; asks = record { id = p.id; heard = ap (λ q. hears q a) packet_is } })
 
 judged_known : (name : List ℕ) (found : Option ℕ) → judged_by name found ≡ Waiting → ⊥
@@ -107,6 +108,7 @@ judges = record {
     quiet : (h : Answered) (past : List Answered) → (IsRequest h past → ⊥) → ((said_by h.call ≡ Waiting) × (Requested h.call → ⊥)) ⊎ Requested h.call → said_by h.call ≡ Waiting
     quiet h past not (inl n) = n.0
     quiet h past not (inr r) = absurd (not (record { against = r.against; name = r.name; password = r.password; asks = r.asks }))
+
     decided : (h : Answered) (past : List Answered) → is_waiting (said_by h.call) ≡ false → ((said_by h.call ≡ Waiting) × (Requested h.call → ⊥)) ⊎ Requested h.call → IsRequest h past
     decided h past e (inl n) = absurd (cc (ap is_waiting n.0, e))
     decided h past e (inr r) = record { against = r.against; name = r.name; password = r.password; asks = r.asks }
@@ -202,11 +204,16 @@ one_request_runs : (a : Against) (name password : List ℕ) (outcome : AuthOutco
     → AreLawful (one_request a name password outcome) × (outcome_in (one_request a name password outcome) ≡ outcome)
 one_request_runs a name password outcome e =
     let is : outcome_in (one_request a name password outcome) ≡ outcome = one_request_says a name password outcome ∙ e in
-    let read = body_is_read name password in
-    ((record {
-       outcome = sym is;
-       packet = ap (λ o. verdict_packet o 7) (sym is) ∙ sym (ap (λ found. if is_some found then verdict_packet (outcome_in (one_request a name password outcome)) 7 else None) read);
-     }, tt), is)
+    let read = body_is_read name password in (
+      (
+        record {
+          outcome = sym is;
+          packet = ap (λ o. verdict_packet o 7) (sym is) ∙ sym (ap (λ found. if is_some found then verdict_packet (outcome_in (one_request a name password outcome)) 7 else None) read);
+        },
+        tt,
+      ),
+      is,
+    )
 
 pub passing_run : (a : Against) (name password : List ℕ) (number : ℕ) → Passes a name password number
     → (past : List Answered) × AreLawful past × (outcome_in past ≡ Passed name number)

@@ -2,3 +2,4 @@ pub mod JudgeLemmas
 pub mod PacketLemmas
 pub mod PeerLemmas
 pub mod PeerRuns
+mod Rows

@@ -1,5 +1,5 @@
 -- The octets of requests and messages.
-use Rattle.std.proofs.Common.{◌≡◌, ℕ, ◌+◌, ◌<◌, ◌≤◌, Bool, true, false, cond, List, [], ◌∷◌, ◌++◌, length, take, drop, Option, None, Some, refl, sym, ap, ◌∙◌, arith, length-append}
+use Rattle.std.proofs.Common.{◌≡◌, ℕ, ◌<◌, Bool, true, false, cond, List, [], ◌∷◌, ◌++◌, length, take, drop, Option, None, Some, refl, sym, ap, ◌∙◌, arith, length-append}
 use Rattle.std.specs.Prelude.{◌==◌, nat_lt, if◌then◌else◌}
 use Rattle.std.proofs.Math.Seq.{take-append_seam, drop-append_seam}
 use Rattle.std.proofs.lemmas.List.{take-append-drop, length-take-le}
@@ -9,7 +9,7 @@ use Rattle.ppp_pap.specs.Packets.{is_message, password_behind, request_body, req
 pub body_is_read : (name password : List ℕ) → request_of (request_body name password) ≡ Some (name, password)
 body_is_read name password =
     let within : nat_lt (length name) (length (name ++ (length password ∷ password))) ≡ true =
-        let l = length-append name (length password ∷ password) in grind (arith, nat_tests)
+    let l = length-append name (length password ∷ password) in grind (arith, nat_tests)
     in
     let same : (length password == length password) ≡ true = (Decides-eqb (length password) (length password)).1 refl in
     ap (λ test. if test then password_behind (take (length name) (name ++ (length password ∷ password))) (drop (length name) (name ++ (length password ∷ password))) else None) within

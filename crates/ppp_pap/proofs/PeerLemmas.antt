@@ -1,5 +1,5 @@
 -- The outcome of one who proves himself by PAP, by which calls are answers.
-use Rattle.std.proofs.Common.{◌≡◌, ℕ, ◌+◌, ◌<◌, ◌≤◌, Bool, true, false, ◌⊎◌, inl, inr, List, [], ◌∷◌, length, Option, None, Some, refl, sym, ap, ◌∙◌, subst, arith}
+use Rattle.std.proofs.Common.{◌≡◌, ℕ, ◌+◌, ◌≤◌, Bool, true, false, ◌⊎◌, inl, inr, List, [], ◌∷◌, length, Option, None, Some, refl, sym, ap, ◌∙◌, subst, arith}
 use Rattle.std.specs.Prelude.{◌==◌, ◌&&◌, is_some, if◌then◌else◌}
 use Rattle.std.proofs.lemmas.Bool.{and_parts, and_from}
 use Rattle.std.proofs.lemmas.Bool.Decides.{Decides-eqb}
@@ -9,7 +9,7 @@ use Rattle.ppp_packet.specs.declared.auth_out.AuthOutcome.TheVariants.{Waiting, 
 use Rattle.ppp_proving.specs.Calls.{Against, AuthCall, begins, hears, ticks, Answered, is_own, is_waiting, sent_at, turned, where_sent}
 use Rattle.ppp_proving.specs.Own.{IsAlways, SendsOwn}
 use Rattle.ppp_proving.specs.Resending.{again_at, last_of, unanswered}
-use Rattle.ppp_proving.specs.Which.{NoneOf, SomeOf, Tires, GivesUp}
+use Rattle.ppp_proving.specs.Which.{NoneOf, SomeOf, Tires}
 use Rattle.ppp_proving.proofs.Sending.{Few, none_few, begin_few, tick_few, first_is, again_is, time_says}
 use Rattle.ppp_proving.proofs.WhichLemmas.{none_some, some_later, some_now}
 use Rattle.ppp_pap.specs.Packets.{is_answer, is_message, request_packet}
@@ -128,6 +128,7 @@ heard_says name now p a packet outcome past = by_sent (sent_at past) refl
   where
     not_over : Tires (record { now = now; call = hears p a; packet = packet; outcome = outcome }) past → ⊥
     not_over t = let e = t.ticks_now in absurd (cc e)
+
     by_code : (last : ℕ) (earlier : List ℕ) → sent_at past ≡ last ∷ earlier → (good bad : Bool) → is_answer 2 p ≡ good → is_answer 3 p ≡ bad
         → Says name (record { now = now; call = hears p a; packet = packet; outcome = outcome }) past (if good then Passed name 0 else if bad then Refused name else Waiting)
     by_code last earlier e true bad g b = inr (inl (record {
@@ -147,6 +148,7 @@ heard_says name now p a packet outcome past = by_sent (sent_at past) refl
       not_bad = λ r. let t = heard_answer 3 p a r.hears_it in absurd (cc (t, b));
       not_over = not_over;
     })
+
     by_sent : (sent : List ℕ) → sent_at past ≡ sent
         → Says name (record { now = now; call = hears p a; packet = packet; outcome = outcome }) past (where_sent sent (answer_says name p))
     by_sent [] e = inl (record {

@@ -46,16 +46,16 @@ turning_run name password = (
 pub unanswered_run : (name password : List ℕ) → (past : List Answered) × AreLawful name password past × (outcome_in name past ≡ Unanswered 10)
 unanswered_run name password = (
   record { now = 30000; call = ticks; packet = None; outcome = Unanswered 10 }
-  ∷ sent_again name password 27000
-  ∷ sent_again name password 24000
-  ∷ sent_again name password 21000
-  ∷ sent_again name password 18000
-  ∷ sent_again name password 15000
-  ∷ sent_again name password 12000
-  ∷ sent_again name password 9000
-  ∷ sent_again name password 6000
-  ∷ sent_again name password 3000
-  ∷ begun name password ∷ [],
+      ∷ sent_again name password 27000
+      ∷ sent_again name password 24000
+      ∷ sent_again name password 21000
+      ∷ sent_again name password 18000
+      ∷ sent_again name password 15000
+      ∷ sent_again name password 12000
+      ∷ sent_again name password 9000
+      ∷ sent_again name password 6000
+      ∷ sent_again name password 3000
+      ∷ begun name password ∷ [],
   (record { outcome = refl; packet = refl }, (record { outcome = refl; packet = refl }, (record { outcome = refl; packet = refl }, (record { outcome = refl; packet = refl }, (record { outcome = refl; packet = refl }, (record { outcome = refl; packet = refl }, (record { outcome = refl; packet = refl }, (record { outcome = refl; packet = refl }, (record { outcome = refl; packet = refl }, (record { outcome = refl; packet = refl }, (record { outcome = refl; packet = refl }, tt))))))))))),
   refl,
 )

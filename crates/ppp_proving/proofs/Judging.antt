@@ -1,5 +1,5 @@
 -- A judge's outcome is what the first call that decides says.
-use Rattle.std.proofs.Common.{◌≡◌, Bool, true, false, List, [], ◌∷◌, ◌++◌, refl, sym, ap, ◌∙◌, subst}
+use Rattle.std.proofs.Common.{◌≡◌, Bool, true, false, List, [], ◌∷◌, ◌++◌, refl, sym, ap, ◌∙◌}
 use Rattle.ppp_packet.specs.declared.auth_out.AuthOutcome.{AuthOutcome}
 use Rattle.ppp_packet.specs.declared.auth_out.AuthOutcome.TheVariants.{Waiting, Passed, Refused, Unanswered}
 use Rattle.ppp_proving.specs.Calls.{Answered, first_of, is_waiting}
@@ -73,9 +73,12 @@ first_says {out = out} {said = said} {Decides = Decides} j (h ∷ past) e = go (
         let says : out (h ∷ past) ≡ said past h = j.more h past ∙ ap (λ o. first_of o (said past h)) nothing in
         (h, past, record { later = []; split = refl; does = j.decided h past (sym (ap is_waiting says) ∙ e); none = waiting_none j past nothing }, says)
     go false t rest =
-        let r = rest t in
-        (r.0, r.1, record { later = h ∷ r.2.later; split = ap (λ calls. h ∷ calls) r.2.split; does = r.2.does; none = r.2.none },
-         j.more h past ∙ stays_once _ _ t ∙ r.3)
+        let r = rest t in (
+          r.0,
+          r.1,
+          record { later = h ∷ r.2.later; split = ap (λ calls. h ∷ calls) r.2.split; does = r.2.does; none = r.2.none },
+          j.more h past ∙ stays_once _ _ t ∙ r.3,
+        )
 
 -- What the first call that decides says is the outcome.
 pub said_first : {out : List Answered → AuthOutcome} {said : List Answered → Answered → AuthOutcome} {Decides : Answered → List Answered → Type 0} →

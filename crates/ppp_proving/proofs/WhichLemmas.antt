@@ -1,5 +1,5 @@
 -- None of the calls does it, or some call does.
-use Rattle.std.proofs.Common.{◌≡◌, List, [], ◌∷◌, ◌++◌, refl, ap, subst}
+use Rattle.std.proofs.Common.{List, [], ◌∷◌, ◌++◌, refl, ap, subst}
 use Rattle.ppp_proving.specs.Calls.{Answered}
 use Rattle.ppp_proving.specs.Which.{NoneOf, SomeOf}
 

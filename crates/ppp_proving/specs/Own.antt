@@ -1,5 +1,5 @@
 -- What is sent of our own accord, over a whole list of calls.
-use Rattle.std.specs.Prelude.{ℕ, ◌≡◌, ◌+◌, ◌≤◌, ◌⊎◌, true, Option, Some, None, List, [], ◌∷◌, length, ⊤}
+use Rattle.std.specs.Prelude.{ℕ, ◌≡◌, ◌+◌, ◌≤◌, ◌⊎◌, true, Some, None, List, [], ◌∷◌, length, ⊤}
 use Rattle.ppp_packet.specs.declared.packet.Packet.{Packet}
 use Rattle.ppp_proving.specs.Calls.{Answered, is_own, sent_at}
 

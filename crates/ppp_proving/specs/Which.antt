@@ -1,6 +1,6 @@
 -- Which calls of a list do something, whatever that is, each after the calls before it. The newest call comes first.
-use Rattle.std.specs.Prelude.{ℕ, ◌≡◌, ◌+◌, ◌≤◌, List, [], ◌∷◌, ◌++◌, length, ⊤}
-use Rattle.ppp_proving.specs.Calls.{Answered, AuthCall, ticks, sent_at}
+use Rattle.std.specs.Prelude.{◌≡◌, ◌+◌, ◌≤◌, List, [], ◌∷◌, ◌++◌, length, ⊤}
+use Rattle.ppp_proving.specs.Calls.{Answered, ticks, sent_at}
 use Rattle.ppp_proving.specs.Resending.{last_of}
 
 -- none of them does it

@@ -1,6 +1,6 @@
 use Rattle.std.proofs.Common.{subst}
 use Rattle.ppp_packet.specs.declared.auth_out.AuthOutcome.{AuthOutcome}
-use Rattle.ppp_packet.specs.declared.auth_out.AuthOutcome.TheVariants.{Waiting, Passed, Refused, Unanswered}
+use Rattle.ppp_packet.specs.declared.auth_out.AuthOutcome.TheVariants.{Waiting, Passed, Refused}
 use Rattle.ppp_chap.proofs.PeerLemmas.{Means, means, same}
 use Rattle.ppp_chap.proofs.laws.peer.results_decide.Goals as goal
 
