@@ -1,4 +1,7 @@
-pub mod OutcomeLemmas
+pub mod BeforeLemmas
+pub mod EndLemmas
+pub mod LateLemmas
 pub mod PhaseLemmas
 pub mod ProverLemmas
 pub mod Rows
+pub mod SideLemmas
