@@ -119,6 +119,7 @@ impl ChapJudge {
         verdict(&self.outcome)
     }
 
+    // What a call answers.
     fn says(&self, packet: Option<Packet>) -> AuthOut
         ensures { result ≡ record { packet = packet; outcome = self.now.outcome } }
     {

@@ -6,17 +6,17 @@ use md5::{Digest, Md5};
 use ppp_base::Name;
 use ppp_packet::{Body, Packet};
 
-/// The codes of CHAP.
-pub const CHALLENGE: u8 = 1;
+// The codes of CHAP.
+pub(crate) const CHALLENGE: u8 = 1;
 
-pub const RESPONSE: u8 = 2;
+pub(crate) const RESPONSE: u8 = 2;
 
-pub const SUCCESS: u8 = 3;
+pub(crate) const SUCCESS: u8 = 3;
 
-pub const FAILURE: u8 = 4;
+pub(crate) const FAILURE: u8 = 4;
 
-/// The identifier of our challenge.
-pub const OUR_ID: u8 = 1;
+// The identifier of our challenge.
+pub(crate) const OUR_ID: u8 = 1;
 
 /// The value that answers a challenge with this identifier: the MD5 of identifier, secret and challenge (RFC 1994, section 4.1).
 pub fn chap_value(id: u8, secret: &[u8], challenge: &[u8]) -> [u8; 16]

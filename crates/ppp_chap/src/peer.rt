@@ -121,6 +121,7 @@ impl ChapPeer {
         }
     }
 
+    // What a call answers.
     fn says(&self, packet: Option<Packet>) -> AuthOut
         ensures { result ≡ record { packet = packet; outcome = self.now.outcome } }
     {

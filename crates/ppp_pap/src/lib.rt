@@ -5,6 +5,7 @@
 #![tactic(auto)]
 
 mod judge;
+pub mod laws;
 mod packets;
 mod peer;
 #[cfg(test)]

@@ -5,15 +5,15 @@ ghost use Rattle.ppp_pap.specs.Packets.{request_packet, request_of, is_message, 
 use ppp_base::Name;
 use ppp_packet::{Body, Packet};
 
-/// The codes of PAP.
-pub const AUTHENTICATE_REQUEST: u8 = 1;
+// The codes of PAP.
+pub(crate) const AUTHENTICATE_REQUEST: u8 = 1;
 
-pub const AUTHENTICATE_ACK: u8 = 2;
+pub(crate) const AUTHENTICATE_ACK: u8 = 2;
 
-pub const AUTHENTICATE_NAK: u8 = 3;
+pub(crate) const AUTHENTICATE_NAK: u8 = 3;
 
-/// The identifier of our request.
-pub const OUR_ID: u8 = 1;
+// The identifier of our request.
+pub(crate) const OUR_ID: u8 = 1;
 
 // A request's name and password.
 #[derive(Drop)]

@@ -118,6 +118,7 @@ impl PapPeer {
         }
     }
 
+    // What a call answers.
     fn says(&self, packet: Option<Packet>) -> AuthOut
         ensures { result ≡ record { packet = packet; outcome = self.now.outcome } }
     {

@@ -1,2 +1,4 @@
 pub mod Calls
+pub mod Own
 pub mod Resending
+pub mod Which

@@ -1,0 +1,5 @@
+pub mod JudgeLemmas
+pub mod PacketLemmas
+pub mod PeerLemmas
+pub mod PeerRuns
+mod Rows

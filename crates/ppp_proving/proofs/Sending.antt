@@ -1,0 +1,70 @@
+-- What is sent of our own accord: ten times at most, 3 seconds apart.
+use Rattle.std.proofs.Common.{◌≡◌, ℕ, ◌+◌, ◌≤◌, Bool, true, false, ◌⊎◌, inl, inr, List, [], ◌∷◌, length, refl, arith}
+use Rattle.std.specs.Prelude.{None, Some, is_some, nat_lt, nat_le, if◌then◌else◌}
+use Rattle.ppp_proving.specs.declared.resending.Again.TheVariants.{Nothing, Send, GiveUp}
+use Rattle.std.proofs.lemmas.Bool.Decides.{nat_tests}
+use Rattle.ppp_packet.specs.declared.packet.Packet.{Packet}
+use Rattle.ppp_proving.specs.Calls.{is_due_again}
+use Rattle.ppp_packet.specs.declared.auth_out.AuthOutcome.TheVariants.{Waiting, Unanswered}
+use Rattle.ppp_proving.specs.declared.resending.Again.{Again}
+use Rattle.ppp_proving.specs.Resending.{again, again_at, first_time, last_of, unanswered}
+use Rattle.ppp_proving.specs.Own.{AreApart}
+
+pub record Few (sent : List ℕ) : Type 0 where
+  pub few : length sent ≤ 10
+  pub apart : AreApart sent
+
+pub none_few : Few []
+none_few = record { few = omega arith; apart = tt }
+
+pub begin_few : (now : ℕ) (sent : List ℕ) (own : Packet) → Few sent → Few (if is_some (first_time sent own) then now ∷ sent else sent)
+begin_few now [] own f = record { few = omega arith; apart = tt }
+begin_few now (last ∷ earlier) own f = f
+
+pub tick_few : (now : ℕ) (sent : List ℕ) (own : Packet) (waiting : Bool) → Few sent
+    → Few (if is_some (if waiting then again (again_at now sent) own else None) then now ∷ sent else sent)
+tick_few now sent own false f = f
+tick_few now [] own true f = f
+tick_few now (last ∷ earlier) own true f = go (nat_le (last + 3000) now) refl (nat_lt (length (last ∷ earlier)) 10) refl
+  where
+    go : (due : Bool) → nat_le (last + 3000) now ≡ due → (more : Bool) → nat_lt (length (last ∷ earlier)) 10 ≡ more →
+        Few (if is_some (again (if due then (if more then Send else GiveUp) else Nothing) own) then now ∷ (last ∷ earlier) else (last ∷ earlier))
+    go false d more m = f
+    go true d false m = f
+    go true d true m = record {
+      few = grind (arith, nat_tests);
+      apart = (grind (arith, nat_tests), f.apart);
+    }
+
+-- A first sending sends this packet or none, and so does another one.
+pub first_is : (sent : List ℕ) (own : Packet) → (first_time sent own ≡ None) ⊎ (first_time sent own ≡ Some own)
+first_is [] own = inr refl
+first_is (last ∷ earlier) own = inl refl
+
+pub again_is : (waiting : Bool) (due : Again) (own : Packet)
+    → ((if waiting then again due own else None) ≡ None) ⊎ ((if waiting then again due own else None) ≡ Some own)
+again_is false due own = inl refl
+again_is true Nothing own = inl refl
+again_is true Send own = inr refl
+again_is true GiveUp own = inl refl
+
+due_over : (now : ℕ) (sent : List ℕ) → is_due_again now sent ≡ true → last_of sent + 3000 ≤ now
+due_over now [] e = absurd cc
+due_over now (last ∷ earlier) e = grind (arith, nat_tests)
+
+over_due : (now : ℕ) (sent : List ℕ) → 10 ≤ length sent → last_of sent + 3000 ≤ now → is_due_again now sent ≡ true
+over_due now [] ten over = absurd (omega arith)
+over_due now (last ∷ earlier) ten over = grind (arith, nat_tests)
+
+-- what time says: nothing, or that nobody answered ten sendings
+pub time_says : (now : ℕ) (sent : List ℕ)
+    → ((unanswered (again_at now sent) ≡ Waiting) × (10 ≤ length sent → last_of sent + 3000 ≤ now → ⊥))
+    ⊎ ((unanswered (again_at now sent) ≡ Unanswered 10) × (10 ≤ length sent) × (last_of sent + 3000 ≤ now))
+time_says now sent = go (is_due_again now sent) refl (nat_lt (length sent) 10) refl
+  where
+    go : (due : Bool) → is_due_again now sent ≡ due → (more : Bool) → nat_lt (length sent) 10 ≡ more
+        → ((unanswered (if due then (if more then Send else GiveUp) else Nothing) ≡ Waiting) × (10 ≤ length sent → last_of sent + 3000 ≤ now → ⊥))
+        ⊎ ((unanswered (if due then (if more then Send else GiveUp) else Nothing) ≡ Unanswered 10) × (10 ≤ length sent) × (last_of sent + 3000 ≤ now))
+    go false d more m = inl (refl, λ ten over. let is = over_due now sent ten over in absurd (cc (d, is)))
+    go true d true m = inl (refl, λ ten over. absurd (grind (arith, nat_tests)))
+    go true d false m = inr (refl, grind (arith, nat_tests), due_over now sent d)
