@@ -4,4 +4,5 @@ pub mod LateLemmas
 pub mod PhaseLemmas
 pub mod ProverLemmas
 pub mod Rows
+pub mod Runs
 pub mod SideLemmas

@@ -5,9 +5,12 @@ use Rattle.ppp_base.specs.declared.allow.Allow.TheVariants as allow
 use Rattle.ppp_packet.specs.declared.agreed.Method.{Method}
 use Rattle.ppp_packet.specs.declared.agreed.Method.TheVariants.{Pap, Chap}
 use Rattle.ppp_packet.specs.declared.auth_out.AuthOutcome.TheVariants as judged
+use Rattle.ppp_auth.specs.declared.outcome.AuthNow.{AuthNow}
+use Rattle.ppp_auth.specs.declared.outcome.AuthNow.TheVariants.{Passed}
 use Rattle.ppp_auth.specs.declared.outcome.Side.TheVariants.{Done as done, Going as going, Lost as lost}
 use Rattle.ppp_auth.specs.Setting.{Setting, PhaseAt, waits, begun_at}
 use Rattle.ppp_auth.specs.Judged.{judge_outcome, judged_in, peer_side}
+use Rattle.ppp_auth.specs.Outcome.{outcome_in}
 use Rattle.ppp_auth.specs.Proved.{our_side}
 
 -- The peer has passed under this name, and may have an address by this line of the secrets of its method; or it needn't prove itself.
@@ -65,3 +68,16 @@ pub record TooLate (is_waiting : List PhaseAt → Bool) (past : List PhaseAt) : 
   pub since : begun_at earlier ≡ Some began
   pub long : began + 60000 ≤ call.now
   pub waiting : is_waiting earlier ≡ true
+
+-- Where the peer proves itself like this, and we like that, a phase has come to this outcome after some calls.
+pub record SomeEnd (peer we : Option Method) (outcome : AuthNow) : Type 0 where
+  pub setting : Setting
+  pub past : List PhaseAt
+  pub peers : setting.peer_proves ≡ peer
+  pub ours : setting.we_prove ≡ we
+  pub ends : outcome_in setting past ≡ outcome
+
+pub record SomePass (peer we : Option Method) : Type 0 where
+  pub name : Option (List ℕ)
+  pub allowed : Allow
+  pub end : SomeEnd peer we (Passed name allowed)

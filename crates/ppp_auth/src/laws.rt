@@ -2,7 +2,8 @@
 
 ghost use Rattle.std.specs.Prelude.{◌≡◌, ◌≢◌, ◌⊎◌, ◌↔◌, ℕ, ◌+◌, ◌≤◌, Bool, true, [], ◌∷◌, List, Option, Some, None, option_to_list};
 ghost use Rattle.ppp_base.specs.declared.allow.Allow.{Allow};
-ghost use Rattle.ppp_auth.specs.Ends.{BothDone, GoesOn, PeerFirst, WeFirst, TooLate};
+ghost use Rattle.ppp_packet.specs.declared.agreed.Method.{Method};
+ghost use Rattle.ppp_auth.specs.Ends.{BothDone, GoesOn, PeerFirst, SomeEnd, SomePass, TooLate, WeFirst};
 ghost use Rattle.ppp_auth.specs.Outcome.{outcome_in, peer_passed};
 ghost use Rattle.ppp_auth.specs.Phase.{names_told, name_of, nothing, told_at};
 ghost use Rattle.ppp_auth.specs.Setting.{Setting, PhaseAt, waits, begun_at, is_lost};
@@ -26,6 +27,13 @@ pub fn the_sides_decide()
 /// A side is lost by the 60 seconds exactly where it waited until a time that came too late.
 pub fn waiting_too_long_loses()
     ensures { (is_waiting : List PhaseAt → Bool) (past : List PhaseAt) → (is_lost is_waiting past ≡ true) ↔ TooLate is_waiting past }
+{}
+
+/// However the two prove themselves, some phase passes; where the peer does, some phase fails by it, and where we do, some by us.
+pub fn each_pair_of_methods_ends_in_each_way()
+    ensures passes { (peer we : Option Method) → SomePass peer we }
+    ensures peer_fails { (peer : Method) (we : Option Method) → SomeEnd (Some peer) we PeerFailed }
+    ensures we_fail { (peer : Option Method) (we : Method) → SomeEnd peer (Some we) WeFailed }
 {}
 
 /// The peer is told as passed once, under the name by which it passed, and not before.

@@ -125,10 +125,10 @@ impl AuthPhase {
         ensures told { (past : List PhaseAt) → StandsFor self.old past → result ≡ told_at (setting_of self.old) (record { now = now; call = waits }) past }
         ensures kept { setting_of self.new ≡ setting_of self.old }
     {
-        if self.began.is_none() {
+        let Some(began) = self.began else {
             return PhaseOut::nothing();
-        }
-        let late = self.is_late(now);
+        };
+        let late = is_late(began, now);
         let before = self.judge.side();
         let judged = self.judge.tick(now, late);
         let proved = self.prover.tick(now, late);
@@ -142,17 +142,6 @@ impl AuthPhase {
         ensures of_calls { (past : List PhaseAt) → StandsFor self.now past → result ≡ outcome_in (setting_of self.now) past }
     {
         self.outcome.copy()
-    }
-
-    // Whether the 60 seconds are over.
-    fn is_late(&self, now: u64) -> bool
-        requires { now ≤ 2 ^ 56 }
-        ensures { result ≡ is_late waits self.now.began now }
-    {
-        match self.began {
-            Some(began) => PHASE_MS <= now && began <= now - PHASE_MS,
-            None => false,
-        }
     }
 
     // How the sides stand, and with them the phase.
@@ -193,6 +182,14 @@ impl AuthPhase {
             peer_passed,
         }
     }
+}
+
+// Whether a call at which time passes comes late: 60 seconds or more after the beginning.
+fn is_late(began: u64, now: u64) -> bool
+    requires { now ≤ 2 ^ 56 }
+    ensures { result ≡ is_late waits (Some began) now }
+{
+    PHASE_MS <= now && began <= now - PHASE_MS
 }
 
 // The moment at which a phase began that began at this one or begins now.

@@ -272,6 +272,7 @@ fn nobody_and_no_secret(rt: HostRuntime) -> Result<(), Fail> {
     laws::nothing_before_the_beginning();
     laws::the_sides_decide();
     laws::waiting_too_long_loses();
+    laws::each_pair_of_methods_ends_in_each_way();
     laws::the_peer_passes_once();
     laws::outcomes_stay();
     laws::sixty_seconds_at_most();

@@ -11,7 +11,7 @@ returns-clause-told c past st =
     let s = setting_of c.args.self.now in
     let at : PhaseAt = record { now = c.args.now; call = waits } in
     let begun : is_some (begun_at past) ≡ true = grind arith in
-    let late : c.is_late-late.result ≡ is_late waits (begun_at past) c.args.now = c.is_late-late.ensures ∙ ap (λ b. is_late waits b c.args.now) st.began in
+    let late : c.is_late-late.result ≡ is_late waits (begun_at past) c.args.now = c.is_late-late.ensures ∙ ap (λ b. is_late waits b c.args.now) (sym c.in-Some.is ∙ st.began) in
     let judged = c.tick-judged.ensures s past late begun st.judge in
     let proved = c.tick-proved.ensures s past late begun st.prover in
     let stands = subst (λ x. JudgeStands (setting_of x) x.judge (at ∷ past)) (sym c.settle.ensures.kept) judged.stands in
