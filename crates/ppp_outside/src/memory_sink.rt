@@ -1,4 +1,4 @@
-ghost use Rattle.std.specs.Prelude.{◌≡◌, [], IfOk, Some};
+ghost use Rattle.std.specs.Prelude.{◌≡◌, [], IfOk, Some, None};
 
 use crate::sink::{Sink, Took};
 use ppp_base::NoMemory;
@@ -60,6 +60,8 @@ impl MemorySink {
 
 impl Sink for MemorySink {
     ghost state = { λ s. s };
+
+    ghost coming = { λ s. None };
 
     fn write(&mut self, piece: &[u8]) -> Took {
         self.calls = self.calls.saturating_add(1);
