@@ -1,3 +1,4 @@
+pub mod Calls
 pub mod Clock
 pub mod Contents
 pub mod Control
@@ -9,6 +10,8 @@ pub mod Iface
 pub mod Kit
 pub mod Line
 pub mod LineWords
+pub mod MemorySink
+pub mod MemorySource
 pub mod MemorySpawner
 pub mod Reading
 pub mod Sink

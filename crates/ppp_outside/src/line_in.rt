@@ -1,4 +1,4 @@
-ghost use Rattle.std.specs.Prelude.{Option, IfSome};
+ghost use Rattle.std.specs.Prelude.{◌≡◌, Option, IfSome};
 ghost use Rattle.ppp_outside.specs.Line.{AnswersAs, LineState, ReadsLine};
 
 use ppp_base::Octets;
@@ -30,6 +30,20 @@ pub enum LineAnswer {
     End,
     /// A fault.
     Failed,
+}
+
+impl LineAnswer {
+    /// The same answer again. It takes no memory.
+    pub fn copy(&self) -> LineAnswer
+        ensures { result ≡ self.now }
+    {
+        match self {
+            LineAnswer::Got(octets) => LineAnswer::Got(octets.copy()),
+            LineAnswer::Quiet => LineAnswer::Quiet,
+            LineAnswer::End => LineAnswer::End,
+            LineAnswer::Failed => LineAnswer::Failed,
+        }
+    }
 }
 
 /// The reading half of a line.
