@@ -1,11 +1,12 @@
-ghost use Rattle.std.specs.Prelude.{◌≡◌, ◌≤◌, ◌^◌, Some, None, List};
-ghost use Rattle.std.specs.Option.{option_copied};
+ghost use Rattle.std.specs.Prelude.{◌≡◌, ◌≤◌, ◌^◌, true, false, Some, None, is_some, List};
+ghost use Rattle.ppp_packet.specs.declared.agreed.Method.TheVariants.{Pap, Chap};
 ghost use Rattle.ppp_secrets.specs.declared.secrets.SecretsPair.{SecretsPair};
-ghost use Rattle.ppp_auth.specs.Judged.{JudgeStands, JudgeAnswers};
-ghost use Rattle.ppp_auth.specs.Outcome.{peer_outcome};
-ghost use Rattle.ppp_auth.specs.Setting.{Setting, PhaseAt, starts, takes, waits};
+ghost use Rattle.ppp_auth.specs.Judged.{JudgeStands, JudgeAnswers, peer_side};
+ghost use Rattle.ppp_auth.specs.Outcome.{passed_by, peer_passed};
+ghost use Rattle.ppp_auth.specs.Setting.{Setting, PhaseAt, starts, takes, waits, begun_at, is_late};
 
-use ppp_base::{Name, protocol};
+use crate::outcome::{AuthNow, Side};
+use ppp_base::{Allow, Name, protocol};
 use ppp_chap::ChapJudge;
 use ppp_packet::{AuthOutcome, Packet};
 use ppp_pap::PapJudge;
@@ -16,6 +17,8 @@ use ppp_secrets::SecretsPair;
 pub(crate) enum JudgePart {
     // It need not prove itself.
     NotNeeded,
+    // The 60 seconds passed while it waited.
+    Lost,
     Pap(PapJudge),
     Chap(ChapJudge),
 }
@@ -26,7 +29,7 @@ impl JudgePart {
         ensures { (s : Setting) (past : List PhaseAt) (pair : SecretsPair) → JudgeStands s self.old past → JudgeAnswers s self.new (record { now = now; call = starts pair }) past result }
     {
         match self {
-            JudgePart::NotNeeded => None,
+            JudgePart::NotNeeded | JudgePart::Lost => None,
             JudgePart::Pap(judge) => judge.begin(now).packet,
             JudgePart::Chap(judge) => judge.begin(now).packet,
         }
@@ -40,11 +43,11 @@ impl JudgePart {
         secrets: &SecretsPair,
         name: &Name,
     ) -> Option<Packet>
-        ensures { (s : Setting) (past : List PhaseAt) → s.config.name ≡ name.now → JudgeStands s self.old past
+        ensures { (s : Setting) (past : List PhaseAt) → s.config.name ≡ name.now → is_some (begun_at past) ≡ true → JudgeStands s self.old past
             → JudgeAnswers s self.new (record { now = now; call = takes protocol packet.now secrets.now }) past result }
     {
         match self {
-            JudgePart::NotNeeded => None,
+            JudgePart::NotNeeded | JudgePart::Lost => None,
             JudgePart::Pap(judge) => {
                 if protocol != protocol::PAP {
                     return None;
@@ -60,25 +63,73 @@ impl JudgePart {
         }
     }
 
-    pub(crate) fn tick(&mut self, now: u64) -> Option<Packet>
+    // Time passes: late, 60 seconds or more after the beginning, whoever still waits is lost.
+    pub(crate) fn tick(&mut self, now: u64, late: bool) -> Option<Packet>
         requires { now ≤ 2 ^ 56 }
-        ensures { (s : Setting) (past : List PhaseAt) → JudgeStands s self.old past → JudgeAnswers s self.new (record { now = now; call = waits }) past result }
+        ensures { (s : Setting) (past : List PhaseAt) → late ≡ is_late waits (begun_at past) now → is_some (begun_at past) ≡ true → JudgeStands s self.old past
+            → JudgeAnswers s self.new (record { now = now; call = waits }) past result }
     {
+        if late && matches!(self.side(), Side::Going) {
+            *self = JudgePart::Lost;
+            return None;
+        }
         match self {
-            JudgePart::NotNeeded => None,
+            JudgePart::NotNeeded | JudgePart::Lost => None,
             JudgePart::Pap(judge) => judge.tick(now).packet,
             JudgePart::Chap(judge) => judge.tick(now).packet,
         }
     }
 
-    // How it stands. None where it isn't needed.
-    pub(crate) fn outcome(&self) -> Option<&AuthOutcome>
-        ensures { (s : Setting) (past : List PhaseAt) → JudgeStands s self.now past → option_copied result ≡ peer_outcome s.peer_proves s past }
+    // How the peer's side stands.
+    pub(crate) fn side(&self) -> Side
+        ensures { (s : Setting) (past : List PhaseAt) → JudgeStands s self.now past → result ≡ peer_side s.peer_proves s past }
     {
         match self {
-            JudgePart::NotNeeded => None,
-            JudgePart::Pap(judge) => Some(judge.outcome()),
-            JudgePart::Chap(judge) => Some(judge.outcome()),
+            JudgePart::NotNeeded => Side::Done,
+            JudgePart::Lost => Side::Lost,
+            JudgePart::Pap(judge) => Side::of(judge.outcome()),
+            JudgePart::Chap(judge) => Side::of(judge.outcome()),
         }
+    }
+
+    // What it means that both sides are done.
+    pub(crate) fn passed(&self) -> AuthNow
+        ensures { (s : Setting) (past : List PhaseAt) → JudgeStands s self.now past → result ≡ peer_passed s.peer_proves s past }
+    {
+        match self {
+            JudgePart::NotNeeded => AuthNow::Passed {
+                peer: None,
+                allow: Allow::Any,
+            },
+            JudgePart::Lost => AuthNow::Going,
+            JudgePart::Pap(judge) => by_pap(judge.outcome()),
+            JudgePart::Chap(judge) => by_chap(judge.outcome()),
+        }
+    }
+}
+
+// What it means that the peer has come to this outcome by PAP.
+fn by_pap(outcome: &AuthOutcome) -> AuthNow
+    ensures { result ≡ passed_by Pap outcome.now }
+{
+    match outcome {
+        AuthOutcome::Passed(name, line) => AuthNow::Passed {
+            peer: Some(name.copy()),
+            allow: Allow::Pap(*line),
+        },
+        _ => AuthNow::Going,
+    }
+}
+
+// The same by CHAP.
+fn by_chap(outcome: &AuthOutcome) -> AuthNow
+    ensures { result ≡ passed_by Chap outcome.now }
+{
+    match outcome {
+        AuthOutcome::Passed(name, line) => AuthNow::Passed {
+            peer: Some(name.copy()),
+            allow: Allow::Chap(*line),
+        },
+        _ => AuthNow::Going,
     }
 }

@@ -13,6 +13,6 @@ mod proving;
 mod tests;
 
 pub use config::AuthConfig;
-pub use out::{PhaseOut, PhasePackets, Sent};
+pub use out::{PhaseOut, PhasePacket, PhasePackets};
 pub use outcome::AuthNow;
 pub use phase::{AuthPhase, PHASE_MS};

@@ -1,4 +1,5 @@
 ghost use Rattle.std.specs.Prelude.{◌≡◌, [], ◌∷◌, ◌++◌, ◌<◌, length};
+ghost use Rattle.ppp_auth.specs.Phase.{nothing};
 
 use arrayvec::ArrayVec;
 use ppp_base::Name;
@@ -7,7 +8,7 @@ use std::marker::Model;
 
 /// A packet, and the number of its protocol.
 #[derive(Debug, Default, PartialEq, Eq, Drop)]
-pub struct Sent {
+pub struct PhasePacket {
     pub protocol: u16,
     pub packet: Packet,
 }
@@ -15,14 +16,14 @@ pub struct Sent {
 /// What is sent at one call, in order: at most two packets. Contracts see it as its list.
 #[derive(Debug, Drop)]
 pub struct PhasePackets {
-    list: ArrayVec<Sent, 2>,
+    list: ArrayVec<PhasePacket, 2>,
 }
 
 impl Model for PhasePackets {
     ghost use Rattle.std.specs.Prelude.{List};
-    ghost use Rattle.ppp_auth.specs.declared.out.Sent.{Sent};
+    ghost use Rattle.ppp_auth.specs.declared.out.PhasePacket.{PhasePacket};
 
-    ghost Value = { List Sent };
+    ghost Value = { List PhasePacket };
 
     ghost view = { λ p. p.list.items };
 }
@@ -38,7 +39,7 @@ impl PhasePackets {
     }
 
     /// Appends a packet.
-    pub fn push(&mut self, sent: Sent)
+    pub fn push(&mut self, sent: PhasePacket)
         requires { length self.old < 2 }
         ensures { self.new ≡ self.old ++ sent ∷ [] }
     {
@@ -46,10 +47,26 @@ impl PhasePackets {
     }
 
     /// The packets, in order.
-    pub fn as_slice(&self) -> &[Sent]
+    pub fn as_slice(&self) -> &[PhasePacket]
         ensures { result.now ≡ self.now }
     {
         self.list.as_slice()
+    }
+}
+
+impl From<ArrayVec<PhasePacket, 2>> for PhasePackets {
+    ghost from_gives = { λ list packets. packets ≡ list.items };
+
+    fn from(list: ArrayVec<PhasePacket, 2>) -> PhasePackets {
+        PhasePackets { list }
+    }
+}
+
+impl From<PhasePackets> for ArrayVec<PhasePacket, 2> {
+    ghost from_gives = { λ packets list. list.items ≡ packets };
+
+    fn from(packets: PhasePackets) -> ArrayVec<PhasePacket, 2> {
+        packets.list
     }
 }
 
@@ -60,4 +77,16 @@ pub struct PhaseOut {
     pub packets: PhasePackets,
     /// The peer's name, at the call at which it has passed.
     pub peer_passed: Option<Name>,
+}
+
+impl PhaseOut {
+    // Nothing is told.
+    pub(crate) fn nothing() -> PhaseOut
+        ensures { result ≡ nothing }
+    {
+        PhaseOut {
+            packets: PhasePackets::new(),
+            peer_passed: None,
+        }
+    }
 }

@@ -1,5 +1,7 @@
 ghost use Rattle.std.specs.Prelude.{◌≡◌};
-ghost use Rattle.ppp_auth.specs.Outcome.{side_of, lost_if, whole, unless_lost, later};
+ghost use Rattle.ppp_auth.specs.Outcome.{whole, unless_lost, later};
+ghost use Rattle.ppp_auth.specs.Phase.{name_of};
+ghost use Rattle.ppp_auth.specs.Sides.{side_of};
 
 use ppp_base::{Allow, Name};
 use ppp_packet::AuthOutcome;
@@ -38,16 +40,6 @@ impl Side {
             AuthOutcome::Waiting => Side::Going,
             AuthOutcome::Passed(..) => Side::Done,
             AuthOutcome::Refused(_) | AuthOutcome::Unanswered(_) => Side::Lost,
-        }
-    }
-
-    // Lost where it goes on and the time is over.
-    pub(crate) fn late(self, is_over: bool) -> Side
-        ensures { result ≡ lost_if is_over self }
-    {
-        match self {
-            Side::Going => { if is_over { Side::Lost } else { Side::Going } }
-            side => side,
         }
     }
 }
@@ -95,6 +87,16 @@ impl AuthNow {
             },
             AuthNow::PeerFailed => AuthNow::PeerFailed,
             AuthNow::WeFailed => AuthNow::WeFailed,
+        }
+    }
+
+    // By which name the peer proved itself, where it has passed.
+    pub(crate) fn peer(self) -> Option<Name>
+        ensures { result ≡ name_of self }
+    {
+        match self {
+            AuthNow::Passed { peer, .. } => peer,
+            AuthNow::Going | AuthNow::PeerFailed | AuthNow::WeFailed => None,
         }
     }
 }

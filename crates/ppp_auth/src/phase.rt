@@ -1,18 +1,18 @@
-ghost use Rattle.std.specs.Prelude.{if◌then◌else◌, ◌++◌, ◌≡◌, ◌≤◌, ◌^◌, Some, None, List, [], ◌∷◌};
+ghost use Rattle.std.specs.Prelude.{◌++◌, ◌≡◌, ◌≤◌, ◌^◌, Some, List, [], ◌∷◌};
 ghost use Rattle.ppp_auth.specs.Judged.{JudgeStands};
-ghost use Rattle.ppp_auth.specs.Outcome.{outcome_in, passed_by, peer_outcome, is_over, is_late};
-ghost use Rattle.ppp_auth.specs.Phase.{StandsFor, setting_of, told_at, is_open, sent_by, name_where};
+ghost use Rattle.ppp_auth.specs.Outcome.{outcome_in, peer_passed};
+ghost use Rattle.ppp_auth.specs.Phase.{StandsFor, setting_of, told_at, newly, sent_by};
 ghost use Rattle.ppp_auth.specs.Proved.{ProverStands};
-ghost use Rattle.ppp_auth.specs.Setting.{Setting, PhaseAt, starts, takes, waits, begun_at, protocol_of};
+ghost use Rattle.ppp_auth.specs.Setting.{PhaseAt, starts, takes, waits, begun_at, earlier, is_late, protocol_of};
 
 use crate::config::AuthConfig;
 use crate::judging::JudgePart;
-use crate::out::{PhaseOut, PhasePackets, Sent};
+use crate::out::{PhaseOut, PhasePacket, PhasePackets};
 use crate::outcome::{AuthNow, Side};
 use crate::proving::{ProverPart, server};
-use ppp_base::{Allow, Name, protocol};
+use ppp_base::{Name, protocol};
 use ppp_chap::{ChapJudge, ChapPeer};
-use ppp_packet::{Agreed, AuthOutcome, Method, Packet};
+use ppp_packet::{Agreed, Method, Packet};
 use ppp_pap::PapJudge;
 use ppp_secrets::SecretsPair;
 use std::mem;
@@ -84,17 +84,15 @@ impl AuthPhase {
         ensures told { (past : List PhaseAt) → StandsFor self.old past → result ≡ told_at (setting_of self.old) (record { now = now; call = starts secrets.now }) past }
         ensures kept { setting_of self.new ≡ setting_of self.old }
     {
-        if self.began.is_none() {
-            self.began = Some(now);
-        }
-        let waited = self.waits();
+        self.began = first(self.began, now);
+        let before = self.judge.side();
         let judged = self.judge.begin(now);
         let proved = self.prover.begin(now, secrets, &self.config);
-        self.settle(false);
-        self.tells(waited, judged, proved)
+        self.settle();
+        self.tells(before, judged, proved)
     }
 
-    /// A packet of this protocol came. One of a protocol on which the ends didn't agree is discarded.
+    /// A packet of this protocol came. Before the beginning, and where the ends didn't agree on the protocol, it is discarded.
     pub fn heard(
         &mut self,
         protocol: u16,
@@ -106,29 +104,36 @@ impl AuthPhase {
         ensures told { (past : List PhaseAt) → StandsFor self.old past → result ≡ told_at (setting_of self.old) (record { now = now; call = takes protocol packet.now secrets.now }) past }
         ensures kept { setting_of self.new ≡ setting_of self.old }
     {
-        let waited = self.waits();
+        if self.began.is_none() {
+            return PhaseOut::nothing();
+        }
+        let before = self.judge.side();
         let judged = self
             .judge
             .heard(protocol, packet, now, secrets, &self.config.name);
         let server = server(&self.config);
         let proved = self.prover.heard(protocol, packet, now, secrets, &server);
-        self.settle(false);
-        self.tells(waited, judged, proved)
+        self.settle();
+        self.tells(before, judged, proved)
     }
 
-    /// Time has passed: what is not answered is sent again, and 60 seconds after the beginning what still waits has failed.
+    /// Time has passed: what is not answered is sent again, and a side that still waits 60 seconds after the beginning has failed: from then on it
+    /// neither sends nor passes. Before the beginning nothing happens.
     pub fn tick(&mut self, now: u64) -> PhaseOut
         requires { now ≤ 2 ^ 56 }
         ensures stands { (past : List PhaseAt) → StandsFor self.old past → StandsFor self.new (record { now = now; call = waits } ∷ past) }
         ensures told { (past : List PhaseAt) → StandsFor self.old past → result ≡ told_at (setting_of self.old) (record { now = now; call = waits }) past }
         ensures kept { setting_of self.new ≡ setting_of self.old }
     {
-        let waited = self.waits();
-        let judged = self.judge.tick(now);
-        let proved = self.prover.tick(now);
-        let over = self.is_over(now);
-        self.settle(over);
-        self.tells(waited, judged, proved)
+        let Some(began) = self.began else {
+            return PhaseOut::nothing();
+        };
+        let late = is_late(began, now);
+        let before = self.judge.side();
+        let judged = self.judge.tick(now, late);
+        let proved = self.prover.tick(now, late);
+        self.settle();
+        self.tells(before, judged, proved)
     }
 
     /// How the phase stands.
@@ -139,74 +144,27 @@ impl AuthPhase {
         self.outcome.copy()
     }
 
-    // Whether the 60 seconds are over.
-    fn is_over(&self, now: u64) -> bool
-        requires { now ≤ 2 ^ 56 }
-        ensures { result ≡ is_over self.now.began now }
-    {
-        match self.began {
-            Some(began) => PHASE_MS <= now && began <= now - PHASE_MS,
-            None => false,
-        }
-    }
-
-    // Whether the peer has still to pass.
-    fn waits(&self) -> bool
-        ensures { (past : List PhaseAt) → JudgeStands (setting_of self.now) self.now.judge past → result ≡ is_open (peer_outcome self.now.peer_proves (setting_of self.now) past) }
-    {
-        match self.judge.outcome() {
-            Some(outcome) => matches!(outcome, AuthOutcome::Waiting),
-            None => false,
-        }
-    }
-
-    // What both sides being done means.
-    fn passed(&self) -> AuthNow
-        ensures { (past : List PhaseAt) → JudgeStands (setting_of self.now) self.now.judge past → result ≡ passed_by self.now.peer_proves (peer_outcome self.now.peer_proves (setting_of self.now) past) }
-    {
-        match (self.peer_proves, self.judge.outcome()) {
-            (None, _) => AuthNow::Passed {
-                peer: None,
-                allow: Allow::Any,
-            },
-            (Some(Method::Pap), Some(AuthOutcome::Passed(name, line))) => AuthNow::Passed {
-                peer: Some(name.copy()),
-                allow: Allow::Pap(*line),
-            },
-            (Some(Method::Chap), Some(AuthOutcome::Passed(name, line))) => AuthNow::Passed {
-                peer: Some(name.copy()),
-                allow: Allow::Chap(*line),
-            },
-            (Some(_), _) => AuthNow::Going,
-        }
-    }
-
     // How the sides stand, and with them the phase.
-    fn settle(&mut self, over: bool)
+    fn settle(&mut self)
         ensures kept { self.new ≡ record self.old { outcome = self.new.outcome } }
-        ensures outcome { (c : PhaseAt) (past : List PhaseAt) → over ≡ is_late c.call (begun_at (c ∷ past)) c.now
+        ensures outcome { (c : PhaseAt) (past : List PhaseAt)
             → JudgeStands (setting_of self.old) self.old.judge (c ∷ past) → ProverStands (setting_of self.old) self.old.prover (c ∷ past)
             → self.old.began ≡ begun_at (c ∷ past) → self.old.outcome ≡ outcome_in (setting_of self.old) past
             → self.new.outcome ≡ outcome_in (setting_of self.old) (c ∷ past) }
     {
         let mut said = AuthNow::Going;
         if self.began.is_some() {
-            let peer = match self.judge.outcome() {
-                Some(outcome) => Side::of(outcome),
-                None => Side::Done,
-            };
-            let ours = self.prover.side();
-            said = AuthNow::whole(self.passed(), peer.late(over), ours.late(over));
+            said = AuthNow::whole(self.judge.passed(), self.judge.side(), self.prover.side());
         }
         let was = mem::replace(&mut self.outcome, AuthNow::Going);
         self.outcome = was.later(said);
     }
 
-    // What is answered to a call before which the peer had, or hadn't, still to pass.
-    fn tells(&self, waited: bool, judged: Option<Packet>, proved: Option<Packet>) -> PhaseOut
+    // What is answered to a call before which the peer's side stood like this.
+    fn tells(&self, before: Side, judged: Option<Packet>, proved: Option<Packet>) -> PhaseOut
         ensures packets { result.packets ≡ sent_by self.now.peer_proves judged ++ sent_by self.now.we_prove proved }
         ensures peer_passed { (past : List PhaseAt) → JudgeStands (setting_of self.now) self.now.judge past
-            → result.peer_passed ≡ (if waited then name_where (peer_outcome self.now.peer_proves (setting_of self.now) past) else None) }
+            → result.peer_passed ≡ newly before (peer_passed self.now.peer_proves (setting_of self.now) past) }
     {
         let mut packets = PhasePackets::new();
         if let (Some(method), Some(packet)) = (self.peer_proves, judged) {
@@ -215,10 +173,10 @@ impl AuthPhase {
         if let (Some(method), Some(packet)) = (self.we_prove, proved) {
             packets.push(sent(method, packet));
         }
-        let mut peer_passed = None;
-        if waited && let Some(AuthOutcome::Passed(name, _)) = self.judge.outcome() {
-            peer_passed = Some(name.copy());
-        }
+        let peer_passed = match before {
+            Side::Going => self.judge.passed().peer(),
+            Side::Done | Side::Lost => None,
+        };
         PhaseOut {
             packets,
             peer_passed,
@@ -226,13 +184,31 @@ impl AuthPhase {
     }
 }
 
+// Whether a call at which time passes comes late: 60 seconds or more after the beginning.
+fn is_late(began: u64, now: u64) -> bool
+    requires { now ≤ 2 ^ 56 }
+    ensures { result ≡ is_late waits (Some began) now }
+{
+    PHASE_MS <= now && began <= now - PHASE_MS
+}
+
+// The moment at which a phase began that began at this one or begins now.
+fn first(began: Option<u64>, now: u64) -> Option<u64>
+    ensures { result ≡ earlier began (Some now) }
+{
+    match began {
+        Some(moment) => Some(moment),
+        None => Some(now),
+    }
+}
+
 // A packet with the protocol of its method.
-fn sent(method: Method, packet: Packet) -> Sent
+fn sent(method: Method, packet: Packet) -> PhasePacket
     ensures { result ≡ record { protocol = protocol_of method; packet = packet } }
 {
     let protocol = match method {
         Method::Pap => protocol::PAP,
         Method::Chap => protocol::CHAP,
     };
-    Sent { protocol, packet }
+    PhasePacket { protocol, packet }
 }

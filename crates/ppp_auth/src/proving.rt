@@ -1,7 +1,6 @@
-ghost use Rattle.std.specs.Prelude.{◌≡◌, ◌≤◌, ◌^◌, Some, None, List, [], ◌∷◌};
-ghost use Rattle.ppp_auth.specs.Outcome.{our_outcome, side_where};
-ghost use Rattle.ppp_auth.specs.Proved.{ProverStands, ProverAnswers, secret_in};
-ghost use Rattle.ppp_auth.specs.Setting.{Setting, PhaseAt, starts, takes, waits, name_or_empty};
+ghost use Rattle.std.specs.Prelude.{◌≡◌, ◌≤◌, ◌^◌, true, Some, None, is_some, List};
+ghost use Rattle.ppp_auth.specs.Proved.{ProverStands, ProverAnswers, our_side, secret_in};
+ghost use Rattle.ppp_auth.specs.Setting.{Setting, PhaseAt, starts, takes, waits, begun_at, is_late, name_or_empty};
 
 use crate::config::AuthConfig;
 use crate::outcome::Side;
@@ -16,6 +15,8 @@ use ppp_secrets::SecretsPair;
 pub(crate) enum ProverPart {
     // We need not prove ourselves.
     NotNeeded,
+    // The 60 seconds passed while we waited.
+    Lost,
     // By PAP, before the phase has begun.
     Unbegun,
     // By PAP, where there was no secret as it began.
@@ -50,7 +51,7 @@ impl ProverPart {
             },
             ProverPart::Pap(peer) => peer.begin(now).packet,
             ProverPart::Chap(peer) => peer.begin(now).packet,
-            ProverPart::NotNeeded | ProverPart::NoSecret => None,
+            ProverPart::NotNeeded | ProverPart::Lost | ProverPart::NoSecret => None,
         }
     }
 
@@ -62,7 +63,7 @@ impl ProverPart {
         secrets: &SecretsPair,
         server: &Name,
     ) -> Option<Packet>
-        ensures { (s : Setting) (past : List PhaseAt) → name_or_empty s.config.remotename ≡ server.now → ProverStands s self.old past
+        ensures { (s : Setting) (past : List PhaseAt) → name_or_empty s.config.remotename ≡ server.now → is_some (begun_at past) ≡ true → ProverStands s self.old past
             → ProverAnswers s self.new (record { now = now; call = takes protocol packet.now secrets.now }) past result }
     {
         match self {
@@ -78,29 +79,37 @@ impl ProverPart {
                 }
                 peer.heard(packet, now, &secrets.chap, server).packet
             }
-            ProverPart::NotNeeded | ProverPart::Unbegun | ProverPart::NoSecret => None,
+            ProverPart::NotNeeded | ProverPart::Lost | ProverPart::Unbegun | ProverPart::NoSecret =>
+                None,
         }
     }
 
-    pub(crate) fn tick(&mut self, now: u64) -> Option<Packet>
+    // Time passes: late, 60 seconds or more after the beginning, whoever still waits is lost.
+    pub(crate) fn tick(&mut self, now: u64, late: bool) -> Option<Packet>
         requires { now ≤ 2 ^ 56 }
-        ensures { (s : Setting) (past : List PhaseAt) → ProverStands s self.old past → ProverAnswers s self.new (record { now = now; call = waits }) past result }
+        ensures { (s : Setting) (past : List PhaseAt) → late ≡ is_late waits (begun_at past) now → is_some (begun_at past) ≡ true → ProverStands s self.old past
+            → ProverAnswers s self.new (record { now = now; call = waits }) past result }
     {
+        if late && matches!(self.side(), Side::Going) {
+            *self = ProverPart::Lost;
+            return None;
+        }
         match self {
             ProverPart::Pap(peer) => peer.tick(now).packet,
             ProverPart::Chap(peer) => peer.tick(now).packet,
-            ProverPart::NotNeeded | ProverPart::Unbegun | ProverPart::NoSecret => None,
+            ProverPart::NotNeeded | ProverPart::Lost | ProverPart::Unbegun | ProverPart::NoSecret =>
+                None,
         }
     }
 
     // How our side stands.
     pub(crate) fn side(&self) -> Side
-        ensures { (s : Setting) (past : List PhaseAt) → ProverStands s self.now past → result ≡ side_where (our_outcome s.we_prove s past) }
+        ensures { (s : Setting) (past : List PhaseAt) → ProverStands s self.now past → result ≡ our_side s.we_prove s past }
     {
         match self {
             ProverPart::NotNeeded => Side::Done,
             ProverPart::Unbegun => Side::Going,
-            ProverPart::NoSecret => Side::Lost,
+            ProverPart::Lost | ProverPart::NoSecret => Side::Lost,
             ProverPart::Pap(peer) => Side::of(peer.outcome()),
             ProverPart::Chap(peer) => Side::of(peer.outcome()),
         }

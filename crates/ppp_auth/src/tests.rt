@@ -17,6 +17,11 @@ const OURS: [u8; 16] = [
     0x9f, 0x4e, 0x53, 0x32, 0x7c, 0x6e, 0x88, 0x9d, 0x57, 0x97, 0x6a, 0x50, 0x3f, 0x73, 0xad, 0xd1,
 ];
 
+// The same of 09, `pw`, and 01 02 03.
+const BY_OPTION: [u8; 16] = [
+    0x5c, 0xe2, 0xba, 0x99, 0xb0, 0x47, 0x07, 0xcb, 0xf4, 0xe2, 0x3c, 0xea, 0x29, 0xf5, 0x26, 0xb4,
+];
+
 fn name(text: &str) -> Name {
     match Name::from_octets(text.as_bytes()) {
         Some(name) => name,
@@ -31,10 +36,10 @@ fn packet(code: u8, id: u8, body: &[u8]) -> Packet {
     }
 }
 
-fn agreed(method: Option<Method>) -> Agreed {
+fn agreed(peer: Option<Method>, we: Option<Method>) -> Agreed {
     Agreed {
-        we_prove: method,
-        peer_proves: method,
+        we_prove: we,
+        peer_proves: peer,
         peer_mru: 1500,
         mrru: None,
         disc: None,
@@ -43,14 +48,17 @@ fn agreed(method: Option<Method>) -> Agreed {
     }
 }
 
-fn phase(method: Option<Method>) -> AuthPhase {
-    let config = AuthConfig {
+fn config(password: Option<Name>, remotename: Option<Name>) -> AuthConfig {
+    AuthConfig {
         name: name("srv"),
         user: name("us"),
-        password: None,
-        remotename: None,
-    };
-    AuthPhase::new(&agreed(method), config, CHALLENGE)
+        password,
+        remotename,
+    }
+}
+
+fn phase(method: Option<Method>) -> AuthPhase {
+    AuthPhase::new(&agreed(method, method), config(None, None), CHALLENGE)
 }
 
 fn secrets(alloc: Global) -> Result<SecretsPair, Fail> {
@@ -152,6 +160,95 @@ fn sixty_seconds(rt: HostRuntime) -> Result<(), Fail> {
 }
 
 #[test]
+fn nothing_before_the_beginning(rt: HostRuntime) -> Result<(), Fail> {
+    let pair = secrets(rt.alloc())?;
+    let mut early = phase(Some(Method::Pap));
+    let request = packet(1, 5, b"\x03bob\x03two");
+    let heard = early.heard(protocol::PAP, &request, 0, &pair);
+    assert!(rt; heard.packets.as_slice().is_empty() && heard.peer_passed.is_none());
+    let ticked = early.tick(70_000);
+    assert!(rt; ticked.packets.as_slice().is_empty());
+    assert!(rt; matches!(early.outcome(), AuthNow::Going));
+    let begun = early.begin(70_001, &pair);
+    assert_eq!(rt; begun.packets.as_slice().len(), 1);
+    let passed = early.heard(protocol::PAP, &request, 70_002, &pair);
+    assert!(rt; passed.peer_passed == Some(name("bob")));
+    Ok(())
+}
+
+#[test]
+fn it_begins_once(rt: HostRuntime) -> Result<(), Fail> {
+    let pair = secrets(rt.alloc())?;
+    let mut twice = phase(Some(Method::Pap));
+    let _begun = twice.begin(0, &pair);
+    let again = twice.begin(30_000, &pair);
+    assert!(rt; again.packets.as_slice().is_empty());
+    let _tick = twice.tick(60_000);
+    assert!(rt; matches!(twice.outcome(), AuthNow::PeerFailed));
+    let late = twice.heard(
+        protocol::PAP,
+        &packet(1, 5, b"\x03bob\x03two"),
+        60_001,
+        &pair,
+    );
+    assert!(rt; late.packets.as_slice().is_empty() && late.peer_passed.is_none());
+    assert!(rt; matches!(twice.outcome(), AuthNow::PeerFailed));
+    Ok(())
+}
+
+#[test]
+fn we_alone_are_late(rt: HostRuntime) -> Result<(), Fail> {
+    let pair = secrets(rt.alloc())?;
+    let mut ours = phase(Some(Method::Pap));
+    let request = packet(1, 5, b"\x03bob\x03two");
+    let _begun = ours.begin(0, &pair);
+    let _passed = ours.heard(protocol::PAP, &request, 1, &pair);
+    let _tick = ours.tick(60_000);
+    assert!(rt; matches!(ours.outcome(), AuthNow::WeFailed));
+    let again = ours.heard(protocol::PAP, &request, 60_001, &pair);
+    assert!(rt; again.packets.as_slice()[0].packet == packet(2, 5, &[0]));
+    assert!(rt; again.peer_passed.is_none());
+    Ok(())
+}
+
+#[test]
+fn the_judges_packet_first(rt: HostRuntime) -> Result<(), Fail> {
+    let pair = secrets(rt.alloc())?;
+    let methods = agreed(Some(Method::Chap), Some(Method::Pap));
+    let mut mixed = AuthPhase::new(&methods, config(Some(name("pw")), None), CHALLENGE);
+    let begun = mixed.begin(0, &pair);
+    let sent = begun.packets.as_slice();
+    assert!(rt; sent.len() == 2);
+    assert!(rt; sent[0].protocol == protocol::CHAP && sent[0].packet.code == 1);
+    assert!(rt; sent[1].protocol == protocol::PAP);
+    assert!(rt; sent[1].packet == packet(1, 1, b"\x02us\x02pw"));
+    Ok(())
+}
+
+#[test]
+fn the_options_secret_and_server(rt: HostRuntime) -> Result<(), Fail> {
+    let pair = SecretsPair {
+        pap: Secrets::read(rt.alloc(), b"us isp mine *\n")?,
+        chap: Secrets::read(rt.alloc(), b"")?,
+    };
+    let by_name = agreed(None, Some(Method::Pap));
+    let mut named = AuthPhase::new(&by_name, config(None, Some(name("isp"))), CHALLENGE);
+    let begun = named.begin(0, &pair);
+    assert!(rt; begun.packets.as_slice()[0].packet == packet(1, 1, b"\x02us\x04mine"));
+    let by_option = agreed(None, Some(Method::Chap));
+    let mut owned = AuthPhase::new(&by_option, config(Some(name("pw")), None), CHALLENGE);
+    let _begun = owned.begin(0, &pair);
+    let challenge = Packet {
+        code: 1,
+        id: 9,
+        body: valued(&[1, 2, 3], "peer"),
+    };
+    let answered = owned.heard(protocol::CHAP, &challenge, 1, &pair);
+    assert!(rt; answered.packets.as_slice()[0].packet.body == valued(&BY_OPTION, "us"));
+    Ok(())
+}
+
+#[test]
 fn nobody_and_no_secret(rt: HostRuntime) -> Result<(), Fail> {
     let none = SecretsPair {
         pap: Secrets::read(rt.alloc(), b"")?,
@@ -172,6 +269,10 @@ fn nobody_and_no_secret(rt: HostRuntime) -> Result<(), Fail> {
     let mut poor = phase(Some(Method::Pap));
     let _begun = poor.begin(0, &none);
     assert!(rt; matches!(poor.outcome().copy(), AuthNow::WeFailed));
+    laws::nothing_before_the_beginning();
+    laws::the_sides_decide();
+    laws::waiting_too_long_loses();
+    laws::each_pair_of_methods_ends_in_each_way();
     laws::the_peer_passes_once();
     laws::outcomes_stay();
     laws::sixty_seconds_at_most();

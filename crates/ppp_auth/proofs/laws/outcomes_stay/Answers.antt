@@ -1,4 +1,4 @@
-use Rattle.ppp_auth.proofs.OutcomeLemmas.{stays_peer, stays_ours, stays_passed}
+use Rattle.ppp_auth.proofs.EndLemmas.{stays_peer, stays_ours, stays_passed}
 use Rattle.ppp_auth.proofs.laws.outcomes_stay.Goals as goal
 
 pub returns : goal.returns

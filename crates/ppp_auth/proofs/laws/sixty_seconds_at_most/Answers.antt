@@ -1,4 +1,4 @@
-use Rattle.ppp_auth.proofs.OutcomeLemmas.{over_at_sixty}
+use Rattle.ppp_auth.proofs.EndLemmas.{over_at_sixty}
 use Rattle.ppp_auth.proofs.laws.sixty_seconds_at_most.Goals as goal
 
 pub returns : goal.returns
