@@ -10,11 +10,11 @@ use Rattle.ppp_secrets.specs.Lookup.{line_for}
 use Rattle.ppp_chap.specs.Packets.{valued_of, valued_body}
 use Rattle.ppp_chap.specs.Passes.{value_of}
 use Rattle.ppp_chap.proofs.PacketLemmas.{body_is_valued}
-use Rattle.ppp_auth.specs.declared.outcome.AuthNow.TheVariants.{Going, Passed, PeerFailed, WeFailed}
-use Rattle.ppp_auth.specs.Setting.{Setting, PhaseAt, PhaseCall, starts, takes, waits}
+use Rattle.ppp_auth.specs.declared.outcome.AuthNow.TheVariants.{Passed, PeerFailed, WeFailed}
+use Rattle.ppp_auth.specs.Setting.{Setting, PhaseAt, waits}
 use Rattle.ppp_auth.specs.Outcome.{outcome_in}
 use Rattle.ppp_auth.specs.Ends.{SomeEnd, SomePass}
-use Rattle.ppp_auth.proofs.Rows.{setting, at, begun, none, request, ack, nak, challenged, success, failure, response}
+use Rattle.ppp_auth.proofs.Rows.{setting, at, begun, request, ack, nak, challenged, success, failure, response}
 
 abbrev setting_for : Option Method → Option Method → List ℕ → Setting
 setting_for peer we challenge = setting peer we (Some (codes "pw")) None challenge
