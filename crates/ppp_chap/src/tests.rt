@@ -148,12 +148,11 @@ fn responses_are_judged(rt: HostRuntime) -> Result<(), Fail> {
 fn names_of_255_octets(rt: HostRuntime) -> Result<(), Fail> {
     let secrets = Secrets::read(rt.alloc(), THREE_LINES).ok().ok_or("lawful")?;
     let server = name(b"srv")?;
-    for (count, is_answered) in [(255, true), (256, false)] {
-        let mut body = Body::new();
-        body.push(0);
-        for _ in 0..count {
-            body.push(b'x');
-        }
+    // A value of 120 octets, and a name of 255 or 256.
+    let longest = [120; 376];
+    let too_long = [120; 377];
+    for (octets, is_answered) in [(longest.as_slice(), true), (too_long.as_slice(), false)] {
+        let body = Body::from_octets(octets).ok_or("a body")?;
         let long = Packet {
             code: 2,
             id: 1,
