@@ -17,3 +17,8 @@ Rose before now = raised before 1 ≤ now
 abbrev pub CountsFault : Bool → ℕ → ℕ → Type 0
 CountsFault true before now = Rose before now
 CountsFault false before now = now ≡ before
+
+-- a count after a call that raises it by one, or leaves it
+abbrev pub counted : Bool → ℕ → ℕ
+counted true count = raised count 1
+counted false count = count

@@ -1,6 +1,13 @@
-ghost use Rattle.std.specs.Prelude.{◌≡◌, [], IfOk, Some};
+ghost use Rattle.std.specs.Prelude.{◌≡◌, ◌≤◌, [], IfOk, IfSome, length, max, refl, None, Some};
+ghost use Rattle.std.specs.Io.KnownBytes.{Appends};
+ghost use Rattle.std.proofs.Common.{ap};
+ghost use Rattle.ppp_outside.specs.Counts.{CountsFault};
+ghost use Rattle.ppp_outside.specs.MemorySink.{SinkInMemory, after_write, answer_of, state_of};
+ghost use Rattle.ppp_outside.specs.Sink.{FitsPiece, accepted, failed};
+ghost use Rattle.ppp_outside.specs.declared.sink.SinkNext.TheVariants.{Takes};
 
-use crate::sink::{Sink, Took};
+use crate::scripted::{Scripted, ScriptedSink};
+use crate::sink::{Sink, SinkNext, Took};
 use ppp_base::NoMemory;
 use std::alloc::Global;
 use std::marker::Model;
@@ -12,32 +19,33 @@ pub struct MemorySink {
     room: usize,
     piece: usize,
     failing: Vec<u64>,
+    next: SinkNext,
     calls: u64,
     faults: u64,
 }
 
 impl Model for MemorySink {
-    ghost use Rattle.std.specs.Prelude.{◌<◌, ◌≤◌, Some, vec_len};
-    ghost use Rattle.ppp_outside.specs.Sink.{SinkState};
+    ghost use Rattle.std.specs.Prelude.{◌<◌, ◌≤◌, vec_capacity, vec_len};
+    ghost use Rattle.ppp_outside.specs.MemorySink.{SinkInMemory};
 
-    ghost Value = { SinkState };
+    ghost Value = { SinkInMemory };
 
-    ghost view = { λ s. record { written = Some s.written.items; faults = s.faults } };
+    ghost view = { λ s. record { written = s.written.items; room = s.room; piece = s.piece; failing = s.failing.items; next = s.next; calls = s.calls; faults = s.faults } };
 
-    ghost invariant = { λ s. (vec_len s.written ≤ s.room) × (0 < s.piece) };
+    ghost invariant = { λ s. (vec_len s.written ≤ s.room) × (s.room ≤ vec_capacity s.written) × (0 < s.piece) };
 }
 
 impl MemorySink {
-    /// A sink with room for so many octets, which takes at most `piece` of them at a call, and one where `piece`
-    /// is 0. A call at a full record fails, and so do the calls with the numbers in `failing`, where the first
-    /// call is number 1.
+    /// A sink with room for so many octets, which is reserved here, and which takes at most `piece` of them at a
+    /// call, and one where `piece` is 0. A call at a full record fails, and so do the calls with the numbers in
+    /// `failing`, where the first call is number 1.
     pub fn new(
         alloc: Global,
         room: usize,
         piece: usize,
         failing: Vec<u64>,
     ) -> Result<MemorySink, NoMemory>
-        ensures { IfOk result (λ s. s ≡ record { written = Some []; faults = 0 }) }
+        ensures { IfOk result (λ s. s ≡ record { written = []; room = room; piece = max piece 1; failing = failing.items; next = Takes; calls = 0; faults = 0 }) }
     {
         let written = Vec::with_capacity(alloc, room)?;
         Ok(MemorySink {
@@ -45,6 +53,7 @@ impl MemorySink {
             room,
             piece: piece.max(1),
             failing,
+            next: SinkNext::Takes,
             calls: 0,
             faults: 0,
         })
@@ -52,27 +61,69 @@ impl MemorySink {
 
     /// What was written.
     pub fn written(&self) -> &[u8]
-        ensures { self.now.written ≡ Some result.now }
+        ensures { result.now ≡ self.now.written }
     {
         self.written.as_slice()
+    }
+
+    // What the next call answers to a piece of so many octets.
+    fn answer(&self, octets: usize) -> Took
+        ensures { result ≡ answer_of self.now octets }
+    {
+        let call = self.calls.saturating_add(1);
+        let count = octets.min(self.room - self.written.len()).min(self.piece);
+        if self.failing.contains(&call)
+            || self.next == SinkNext::Fails
+            || (count == 0 && octets > 0)
+        {
+            Took::Failed
+        } else {
+            Took::Took(count)
+        }
     }
 }
 
 impl Sink for MemorySink {
-    ghost state = { λ s. s };
+    ghost state = { state_of };
 
-    fn write(&mut self, piece: &[u8]) -> Took {
+    ghost coming = { λ s. None };
+
+    fn write(&mut self, piece: &[u8]) -> Took
+        ensures fits { FitsPiece result piece.now }
+        ensures written { Appends (Some self.old.written) (Some self.new.written) (accepted result piece.now) }
+        ensures faults { CountsFault (failed result) self.old.faults self.new.faults }
+
+        // It fails exactly where the call is one of those that are to fail, a fault was set, or there is no room.
+        ensures answer { result ≡ answer_of self.old (length piece.now) }
+        ensures after { self.new ≡ after_write self.old piece.now result }
+    {
+        let answer = self.answer(piece.len());
         self.calls = self.calls.saturating_add(1);
-        let room = self.room - self.written.len();
-        let count = piece.len().min(room).min(self.piece);
-        let full = count == 0 && !piece.is_empty();
-        if full
-            || self.failing.contains(&self.calls)
-            || self.written.extend_from_slice(&piece[..count]).is_err()
-        {
-            self.faults = self.faults.saturating_add(1);
-            return Took::Failed;
+        match answer {
+            Took::Took(count) => {
+                let kept = self.written.extend_from_slice(&piece[..count]);
+                prove!(kept.is_ok());
+            }
+            Took::Failed => self.faults = self.faults.saturating_add(1),
         }
-        Took::Took(count)
+        answer
     }
+}
+
+impl Scripted for MemorySink {
+    type Next = SinkNext;
+
+    ghost SameButNext = { λ a b. b ≡ record a { next = b.next } };
+
+    ghost next = { λ s. s.next };
+
+    fn next_is(&mut self, answer: &SinkNext) {
+        self.next = *answer;
+    }
+}
+
+impl ScriptedSink for MemorySink {
+    ghost keeps = { λ a b same. ap state_of same };
+
+    ghost answers_it = { λ s. tt };
 }

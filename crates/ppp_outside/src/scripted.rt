@@ -1,5 +1,8 @@
-ghost use Rattle.std.specs.Prelude.{◌≡◌, IfSome};
+ghost use Rattle.std.specs.Prelude.{◌≡◌, Option, Some, IfSome};
 
+use crate::dialer::{DialNext, Dialer};
+use crate::line_in::{LineAnswer, LineIn};
+use crate::sink::{Sink, SinkNext};
 use crate::spawner::{ScriptEnd, Spawner};
 
 /// An object of the outside whose next answer can be set.
@@ -28,4 +31,33 @@ pub trait ScriptedSpawner: Spawner + Scripted<Next = ScriptEnd> {
 
     /// Where the answer of the next call is known, it is the one that was set.
     ghost answers_it: { (s : Self) → IfSome (Self.answers s) (λ answer. answer ≡ Self.next s) };
+}
+
+/// A line whose next answer can be set. Its counts and contents stay.
+pub trait ScriptedLine: LineIn + Scripted {
+    ghost use Rattle.ppp_outside.specs.declared.line_in.LineAnswer.{LineAnswer};
+
+    /// The answer that is set by this, where it is one and the same in each state of the line.
+    ghost means: { Self.Next → Option LineAnswer };
+
+    ghost keeps: { (a b : Self) → Self.SameButNext a b → Self.state b ≡ Self.state a };
+
+    /// Where the answer of the next call is known, it is the one that was set.
+    ghost answers_it: { (s : Self) → IfSome (Self.coming s) (λ answer. means (Self.next s) ≡ Some answer) };
+}
+
+/// A sink whose next answer can be set. Its count and what was written stay.
+pub trait ScriptedSink: Sink + Scripted<Next = SinkNext> {
+    ghost keeps: { (a b : Self) → Self.SameButNext a b → Self.state b ≡ Self.state a };
+
+    /// Where the answer of the next call is known, it is the one that was set.
+    ghost answers_it: { (s : Self) → IfSome (Self.coming s) (λ answer. answer ≡ Self.next s) };
+}
+
+/// A dialer whose next answer can be set. Its counts and what it was asked stay.
+pub trait ScriptedDialer: Dialer + Scripted<Next = DialNext> {
+    ghost keeps: { (a b : Self) → Self.SameButNext a b → Self.state b ≡ Self.state a };
+
+    /// Where the answer of the next call is known, it is the one that was set.
+    ghost answers_it: { (s : Self) → IfSome (Self.coming s) (λ answer. answer ≡ Self.next s) };
 }

@@ -1,4 +1,4 @@
-ghost use Rattle.std.specs.Prelude.{◌≡◌};
+ghost use Rattle.std.specs.Prelude.{◌≡◌, None};
 
 use crate::sink::{Sink, Took};
 use crate::source::{Got, Source};
@@ -65,6 +65,8 @@ impl<W> ToWriter<W> {
 
 impl<W: Write> Sink for ToWriter<W> {
     ghost state = { λ s. record { written = W.contents s.writer; faults = s.faults } };
+
+    ghost coming = { λ s. None };
 
     fn write(&mut self, piece: &[u8]) -> Took {
         match self.writer.write(piece) {

@@ -1,5 +1,6 @@
-ghost use Rattle.std.specs.Prelude.{◌≡◌, [], decimal};
+ghost use Rattle.std.specs.Prelude.{◌≡◌, [], decimal, IfSome};
 ghost use Rattle.std.specs.Bool.{OnFalse, OnTrue};
+ghost use Rattle.ppp_outside.specs.Sink.{takes_text};
 ghost use Rattle.ppp_outside.specs.Writing.{Breaks, Puts, Writes, fresh};
 
 use crate::sink::{Sink, Took};
@@ -14,6 +15,7 @@ pub const PAGE: usize = 4096;
 pub fn write_whole<O: Sink>(output: &mut O, text: &[u8]) -> bool
     ensures whole { OnTrue result (Writes (O.state output.old) (O.state output.new) text.now) }
     ensures part { OnFalse result (Breaks (O.state output.old) (O.state output.new) text.now) }
+    ensures as_told { IfSome (O.coming output.old) (λ set. result ≡ takes_text set text.now) }
 {
     let mut at = 0;
     'writing: while at < text.len() {

@@ -1,0 +1,69 @@
+-- What contracts see of a control in memory.
+use Rattle.std.specs.Prelude.{◌≡◌, ℕ, Bool, true, false, nat_eq, List, [], ◌∷◌, Option, Some, None, drop, codes, filter_map, if◌then◌else◌}
+use Rattle.std.specs.Cmp.Lexicographic.{pointwise}
+use Rattle.ppp_base.specs.declared.signal_word.SignalWord.{SignalWord}
+use Rattle.ppp_base.specs.declared.signal_word.SignalWord.TheVariants.{Hup, Int, Term, Usr1, Usr2}
+use Rattle.ppp_outside.specs.Calls.{is_listed}
+use Rattle.ppp_outside.specs.Control.{ControlState, failed, is_end, is_signal}
+use Rattle.ppp_outside.specs.Counts.{counted, raised}
+use Rattle.ppp_outside.specs.declared.control.Word.{Word}
+use Rattle.ppp_outside.specs.declared.control.Word.TheVariants as word
+
+abbrev pub is_text : List ℕ → List ℕ → Bool
+is_text text named = pointwise nat_eq text named
+
+-- the signal that a word names
+abbrev pub signal_of : List ℕ → Option SignalWord
+signal_of text =
+    if is_text text (codes "HUP")
+    then Some Hup
+    else
+    if is_text text (codes "INT")
+    then Some Int
+    else
+    if is_text text (codes "TERM")
+    then Some Term
+    else
+    if is_text text (codes "USR1")
+    then Some Usr1
+    else if is_text text (codes "USR2") then Some Usr2 else None
+
+-- the words that are left, which calls are to fail, and the counts
+pub record ControlInMemory : Type 0 where
+  pub words : List (List ℕ)
+  pub failing : List ℕ
+  pub calls : ℕ
+  pub signals : ℕ
+  pub ends : ℕ
+  pub faults : ℕ
+
+-- it tells the signals among the words that are left
+abbrev pub state_of : ControlInMemory → ControlState
+state_of s = record { left = Some (filter_map signal_of s.words); signals = s.signals; ends = s.ends; faults = s.faults }
+
+-- a signal, and quiet for a word that names none
+abbrev pub signal_or_quiet : Option SignalWord → Word
+signal_or_quiet (Some signal) = word.Signal signal
+signal_or_quiet None = word.Quiet
+
+-- what the first of the words is heard as
+abbrev pub heard_as : List (List ℕ) → Word
+heard_as [] = word.End
+heard_as (text ∷ rest) = signal_or_quiet (signal_of text)
+
+-- what the next call answers
+abbrev pub answer_of : ControlInMemory → Word
+answer_of s = if is_listed s.calls s.failing then word.Failed else heard_as s.words
+
+-- the counts after an answer
+abbrev pub counted_after : ControlInMemory → Word → ControlInMemory
+counted_after s answer = record s {
+  calls = raised s.calls 1;
+  signals = counted (is_signal answer) s.signals;
+  ends = counted (is_end answer) s.ends;
+  faults = counted (failed answer) s.faults;
+}
+
+-- after a call with this answer
+abbrev pub after_next : ControlInMemory → Word → ControlInMemory
+after_next s answer = record (counted_after s answer) { words = if failed answer then s.words else drop 1 s.words }

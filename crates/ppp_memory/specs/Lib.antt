@@ -1,0 +1,9 @@
+pub mod Clock
+pub mod Control
+pub mod Dialer
+pub mod Files
+pub mod Iface
+pub mod Kept
+pub mod Kit
+pub mod Line
+pub mod Replay
