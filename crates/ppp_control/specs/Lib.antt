@@ -1,10 +1,15 @@
 pub mod Answers
 pub mod Judging
+pub mod Verdict
 pub mod Sorting
+pub mod Class
+pub mod Changes
+pub mod Past
 pub mod Given
+pub mod OwnPackets
+pub mod Sent
+pub mod Rules
 pub mod Start
 pub mod Step
-pub mod Class
 pub use Rattle.ppp_packet.specs.OptionsOf
 pub use Rattle.ppp_packet.specs.OptionList
-pub mod Past

@@ -10,6 +10,8 @@
 #![tactic(auto)]
 
 mod classes;
+mod cutting;
+mod items;
 mod judging;
 pub mod laws;
 mod negotiation;
@@ -18,7 +20,9 @@ mod parts;
 mod sorting;
 
 pub use classes::{HeardAs, class};
+pub use cutting::up_to;
+pub use items::{last_body, names_kind};
 pub use judging::{Judge, Judged, Verdict, verdict_by};
 pub use negotiation::{Negotiation, StepOut};
 pub use packets::Packets;
-pub use parts::{Occasion, Request};
+pub use parts::{Codes, Request};

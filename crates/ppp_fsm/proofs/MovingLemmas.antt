@@ -4,8 +4,8 @@ use Rattle.std.specs.Prelude.{◌||◌, not, nat_le, nat_lt}
 use Rattle.std.proofs.lemmas.Bool.Decides.{nat_tests}
 use Rattle.ppp_fsm.specs.declared.event.FsmEvent.{FsmEvent}
 use Rattle.ppp_fsm.specs.declared.event.FsmEvent.TheVariants.{Close}
-use Rattle.ppp_fsm.specs.Fsm.{Automaton, Entry, after}
-use Rattle.ppp_fsm.specs.Moving.{is_shut, is_open, may_begin}
+use Rattle.ppp_fsm.specs.Fsm.{Automaton, Entry, entry_of, after}
+use Rattle.ppp_fsm.specs.Moving.{is_shut, is_open_event, may_begin}
 use Rattle.ppp_fsm.proofs.TableLemmas.{each_entry, next_of, next_is}
 
 implies : (a b : Bool) → (not a || b) ≡ true → a ≡ true → b ≡ true
@@ -21,10 +21,6 @@ or_itself true true = refl
 or_itself true false = refl
 or_itself false true = refl
 or_itself false false = refl
-
-itself_or : (a b : Bool) → (not b || (b || a)) ≡ true
-itself_or a true = refl
-itself_or a false = refl
 
 abbrev few : FsmEvent → ℕ → Entry → Bool
 few event state entry = not (nat_le state 9) || nat_le (next_of state entry) 9
@@ -61,23 +57,35 @@ shut_by_close a h =
     past_nine b state past = let over : nat_lt 9 state ≡ true = grind (arith, nat_tests) in ap (λ x. not b || (x || is_shut state)) over ∙ either_way b
 
 abbrev stays_shut : FsmEvent → ℕ → Entry → Bool
-stays_shut event state entry = not (is_shut state) || (is_open event || is_shut (next_of state entry))
+stays_shut event state entry = not (is_shut state) || (is_open_event event || is_shut (next_of state entry))
 
-pub stays_until_open : (a : Automaton) (event : FsmEvent) → is_shut a.state ≡ true → (is_open event || is_shut (after a event).state) ≡ true
+pub stays_until_open : (a : Automaton) (event : FsmEvent) → is_shut a.state ≡ true → (is_open_event event || is_shut (after a event).state) ≡ true
 stays_until_open a event h =
-    let passes = each_entry stays_shut refl (λ event state past. or_itself (is_open event) (is_shut state)) a event in
-    ap (λ s. is_open event || is_shut s) (next_is a event) ∙ implies (is_shut a.state) _ passes h
+    let passes = each_entry stays_shut refl (λ event state past. or_itself (is_open_event event) (is_shut state)) a event in
+    ap (λ s. is_open_event event || is_shut s) (next_is a event) ∙ implies (is_shut a.state) _ passes h
+
+abbrev alike : Bool → Bool → Bool
+alike true b = b
+alike false b = not b
+
+are_same : (a b : Bool) → alike a b ≡ true → a ≡ b
+are_same true true e = refl
+are_same true false e = sym e
+are_same false true e = e
+are_same false false e = refl
 
 abbrev rises : FsmEvent → ℕ → Entry → Bool
-rises event state entry = not (nat_le state 3) || (nat_le (next_of state entry) 3 || may_begin event state)
+rises event state entry = nat_lt 3 state || alike (nat_lt 3 (next_of state entry)) (may_begin event state)
 
-pub begun_by_these : (a : Automaton) (event : FsmEvent) → a.state ≤ 3 → 3 < (after a event).state → may_begin event a.state ≡ true
-begun_by_these a event h k =
-    let passes = each_entry rises refl (λ event state past. itself_or (may_begin event state) (nat_le state 3)) a event in
-    let le : nat_le a.state 3 ≡ true = grind (arith, nat_tests) in
-    let above : nat_le (after a event).state 3 ≡ false = grind (arith, nat_tests) in
-    second _ _ (ap (λ s. nat_le s 3) (sym (next_is a event)) ∙ above) (implies (nat_le a.state 3) _ passes le)
+pub begun_by_these : (a : Automaton) (event : FsmEvent) → a.state ≤ 3 → nat_lt 3 (after a event).state ≡ may_begin event a.state
+begun_by_these a event h =
+    let passes = each_entry rises refl (λ event state past. far (alike (nat_lt 3 state) (may_begin event state)) state past) a event in
+    let within : nat_lt 3 a.state ≡ false = grind (arith, nat_tests) in
+    ap (λ s. nat_lt 3 s) (next_is a event) ∙ are_same (nat_lt 3 (next_of a.state (entry_of a event))) (may_begin event a.state) (second (nat_lt 3 a.state) _ within passes)
   where
     second : (a b : Bool) → a ≡ false → (a || b) ≡ true → b ≡ true
     second false b e f = f
     second true b e f = absurd (let x : true ≡ false = e in cc)
+
+    far : (b : Bool) (state : ℕ) → 9 < state → (nat_lt 3 state || b) ≡ true
+    far b state past = let over : nat_lt 3 state ≡ true = grind (arith, nat_tests) in ap (λ x. x || b) over

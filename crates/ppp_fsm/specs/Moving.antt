@@ -7,14 +7,14 @@ use Rattle.ppp_fsm.specs.declared.event.FsmEvent.TheVariants.{Up, Open, RcrGood,
 abbrev pub is_shut : ℕ → Bool
 is_shut state = state == 0 || state == 2 || state == 4
 
-abbrev pub is_open : FsmEvent → Bool
-is_open Open = true
-is_open _ = false
+abbrev pub is_open_event : FsmEvent → Bool
+is_open_event Open = true
+is_open_event _ = false
 
--- The events that lead from the states without a timer below Closing to those above Stopped: Up, Open, and a Configure-Request in Stopped.
+-- What leads from the states up to Stopped to those above: Up in Starting, Open in Closed, and a Configure-Request in Stopped.
 abbrev pub may_begin : FsmEvent → ℕ → Bool
-may_begin Up state = true
-may_begin Open state = true
+may_begin Up state = state == 1
+may_begin Open state = state == 2
 may_begin RcrGood state = state == 3
 may_begin RcrBad state = state == 3
 may_begin _ state = false

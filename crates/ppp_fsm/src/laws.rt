@@ -1,9 +1,9 @@
 //! What follows from the table, for a reader and for the layers above.
 
-ghost use Rattle.std.specs.Prelude.{◌≡◌, ℕ, ◌==◌, ◌<◌, ◌≤◌, ◌&&◌, ◌||◌, Bool, true};
+ghost use Rattle.std.specs.Prelude.{◌≡◌, ℕ, ◌==◌, ◌<◌, ◌≤◌, ◌&&◌, ◌||◌, Bool, true, nat_lt};
 ghost use Rattle.ppp_fsm.specs.Acts.{has};
 ghost use Rattle.ppp_fsm.specs.Fsm.{Automaton, Entry, never, entry_of, acts_of, after};
-ghost use Rattle.ppp_fsm.specs.Moving.{is_shut, is_open, may_begin};
+ghost use Rattle.ppp_fsm.specs.Moving.{is_shut, is_open_event, may_begin};
 ghost use Rattle.ppp_fsm.specs.Opening.{OpensByActs};
 ghost use Rattle.ppp_fsm.specs.TableTest.{table_passes, is_terminate};
 ghost use Rattle.ppp_fsm.specs.declared.acts.Act.TheVariants.{Zrc};
@@ -39,10 +39,10 @@ pub fn close_shuts()
 
 /// In these three the automaton stays until Open.
 pub fn shut_until_open()
-    ensures { (a : Automaton) (event : FsmEvent) → is_shut a.state ≡ true → (is_open event || is_shut (after a event).state) ≡ true }
+    ensures { (a : Automaton) (event : FsmEvent) → is_shut a.state ≡ true → (is_open_event event || is_shut (after a event).state) ≡ true }
 {}
 
-/// From the states 0 to 3 only Up, Open, and a Configure-Request in Stopped lead upwards.
+/// From the states 0 to 3 just these lead upwards: Up in Starting, Open in Closed, and a Configure-Request in Stopped.
 pub fn only_these_begin()
-    ensures { (a : Automaton) (event : FsmEvent) → a.state ≤ 3 → 3 < (after a event).state → may_begin event a.state ≡ true }
+    ensures { (a : Automaton) (event : FsmEvent) → a.state ≤ 3 → nat_lt 3 (after a event).state ≡ may_begin event a.state }
 {}

@@ -1,7 +1,7 @@
 use Rattle.std.proofs.Common.{length, ◌≡◌}
 use Rattle.std.specs.Prelude.{◌||◌}
-use Rattle.ppp_lcp.specs.Negotiating.{names_kind}
-use Rattle.ppp_lcp.proofs.lcp.names_kind.Given as goal
+use Rattle.ppp_control.specs.Changes.{names_kind}
+use Rattle.ppp_control.proofs.items.names_kind.Given as goal
 
 abbrev pub invariant-seeking : goal.invariant-seeking
 invariant-seeking l = (l.is_named || names_kind l.kind l.walk) ≡ names_kind l.kind l.items
