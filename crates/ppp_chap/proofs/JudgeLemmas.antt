@@ -26,6 +26,22 @@ response_read p a name value r =
     let packets : p ≡ response_packet 1 value name = cc heard in
     ap response_in packets ∙ body_is_valued value name r.fits
 
+-- a packet that is read as a response is one
+pub read_responds : (p : Packet) (a : Against) (response : List ℕ × List ℕ) → response_in p ≡ Some response → Responds (hears p a) a response.1 response.0
+read_responds p a response e = go (p.code == 2 && p.id == 1) refl e
+  where
+    go : (test : Bool) → (p.code == 2 && p.id == 1) ≡ test → (if test then valued_of p.body else None) ≡ Some response → Responds (hears p a) a response.1 response.0
+    go false t e = absurd cc
+    go true t e =
+        let tests = and_parts (p.code == 2) (p.id == 1) t in
+        let body = valued_is_body p.body response.0 response.1 e in
+        let packets : p ≡ response_packet 1 response.0 response.1 =
+        ap (λ n. record { code = n; id = p.id; body = p.body }) ((Decides-eqb p.code 2).0 tests.0)
+        ∙ ap (λ n. record { code = 2; id = n; body = p.body }) ((Decides-eqb p.id 1).0 tests.1)
+        ∙ ap (λ octets. record { code = 2; id = 1; body = octets }) body.0
+        in
+        record { heard = ap (λ q. hears q a) packets; fits = body.1 }
+
 not_tired : (now : ℕ) (p : Packet) (a : Against) (packet : Option Packet) (outcome : AuthOutcome) (past : List Answered)
     → Tires (record { now = now; call = hears p a; packet = packet; outcome = outcome }) past → ⊥
 not_tired now p a packet outcome past t = let e = t.ticks_now in absurd (cc e)
@@ -71,21 +87,6 @@ heard_learnt challenge now p a packet outcome past = by_sent (sent_at past) refl
         absurd (cc (e, read))
     not_read e (inr t) = not_tired now p a packet outcome past t
 
-    read_is : (response : List ℕ × List ℕ) → response_in p ≡ Some response → Responds (hears p a) a response.1 response.0
-    read_is response e = go (p.code == 2 && p.id == 1) refl e
-      where
-        go : (test : Bool) → (p.code == 2 && p.id == 1) ≡ test → (if test then valued_of p.body else None) ≡ Some response → Responds (hears p a) a response.1 response.0
-        go false t e = absurd cc
-        go true t e =
-            let tests = and_parts (p.code == 2) (p.id == 1) t in
-            let body = valued_is_body p.body response.0 response.1 e in
-            let packets : p ≡ response_packet 1 response.0 response.1 =
-            ap (λ n. record { code = n; id = p.id; body = p.body }) ((Decides-eqb p.code 2).0 tests.0)
-            ∙ ap (λ n. record { code = 2; id = n; body = p.body }) ((Decides-eqb p.id 1).0 tests.1)
-            ∙ ap (λ octets. record { code = 2; id = 1; body = octets }) body.0
-            in
-            record { heard = ap (λ q. hears q a) packets; fits = body.1 }
-
     by_found : (last : ℕ) (earlier : List ℕ) → sent_at past ≡ last ∷ earlier → (found : Option (List ℕ × List ℕ)) → response_in p ≡ found
         → Learnt challenge (record { now = now; call = hears p a; packet = packet; outcome = outcome }) past (judged challenge a found)
         ⊎ Unlearnt (record { now = now; call = hears p a; packet = packet; outcome = outcome }) past (judged challenge a found)
@@ -96,7 +97,7 @@ heard_learnt challenge now p a packet outcome past = by_sent (sent_at past) refl
         against = a;
         name = response.1;
         value = response.0;
-        responds = read_is response e;
+        responds = read_responds p a response e;
       });
       speaks = judged_known response.1 _;
     })
@@ -301,5 +302,5 @@ owns name challenge [] l = tt
 owns name challenge (h ∷ past) l = (λ o. l.0.packet ∙ own_is name challenge past h.now h.call o, owns name challenge past l.1)
 
 -- what is sent of our own accord
-pub few_challenges : (name challenge : List ℕ) (past : List Answered) → AreLawful name challenge past → SendsOwn (challenge_packet challenge name) past
+pub few_challenges : (name challenge : List ℕ) (past : List Answered) → AreLawful name challenge past → SendsOwn (challenge_packet challenge name) (outcome_in challenge) past
 few_challenges name challenge past l = sends_own (challenge_packet challenge name) (outcome_in challenge) past (owns name challenge past l)

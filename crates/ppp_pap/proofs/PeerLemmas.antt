@@ -199,5 +199,5 @@ own_is name password [] l = tt
 own_is name password (h ∷ past) l = (λ o. l.0.packet, own_is name password past l.1)
 
 -- what is sent of our own accord
-pub few_requests : (name password : List ℕ) (past : List Answered) → AreLawful name password past → SendsOwn (request_packet name password) past
+pub few_requests : (name password : List ℕ) (past : List Answered) → AreLawful name password past → SendsOwn (request_packet name password) (outcome_in name) past
 few_requests name password past l = sends_own (request_packet name password) (outcome_in name) past (own_is name password past l)

@@ -1,5 +1,5 @@
 -- What is sent of our own accord: ten times at most, 3 seconds apart.
-use Rattle.std.proofs.Common.{◌≡◌, ℕ, ◌+◌, ◌≤◌, Bool, true, false, ◌⊎◌, inl, inr, List, [], ◌∷◌, length, refl, sym, subst, ◌∙◌, arith}
+use Rattle.std.proofs.Common.{◌≡◌, ℕ, ◌+◌, ◌≤◌, Bool, true, false, ◌⊎◌, inl, inr, List, [], ◌∷◌, length, refl, sym, ap, subst, ◌∙◌, ◌<◌, arith}
 use Rattle.std.specs.Prelude.{Option, None, Some, ⊤, is_some, nat_lt, nat_le, if◌then◌else◌}
 use Rattle.ppp_proving.specs.declared.resending.Again.TheVariants.{Nothing, Send, GiveUp}
 use Rattle.std.proofs.lemmas.Bool.Decides.{nat_tests}
@@ -9,7 +9,7 @@ use Rattle.ppp_packet.specs.declared.auth_out.AuthOutcome.{AuthOutcome}
 use Rattle.ppp_packet.specs.declared.auth_out.AuthOutcome.TheVariants.{Waiting, Unanswered}
 use Rattle.ppp_proving.specs.declared.resending.Again.{Again}
 use Rattle.ppp_proving.specs.Resending.{again, again_at, first_time, last_of, own_sent, unanswered}
-use Rattle.ppp_proving.specs.Own.{AreApart, IsAlways, SendsOwn}
+use Rattle.ppp_proving.specs.Own.{AreApart, AreSent, IsAlways, IsDue, SendsOwn}
 
 record Few (sent : List ℕ) : Type 0 where
   few : length sent ≤ 10
@@ -82,11 +82,39 @@ always : (own : Packet) (outcome : List Answered → AuthOutcome) (past : List A
 always own outcome [] l = tt
 always own outcome (h ∷ past) l = (λ o. own_is own (outcome past) h.now h.call h.packet past (l.0 o), always own outcome past l.1)
 
--- It is then one packet, ten times at most, each time 3 seconds or more after the one before.
-pub sends_own : (own : Packet) (outcome : List Answered → AuthOutcome) (past : List Answered) → OwnSent own outcome past → SendsOwn own past
+again_due : (own : Packet) (now : ℕ) (sent : List ℕ) → 1 ≤ length sent → length sent < 10 → last_of sent + 3000 ≤ now
+    → again (again_at now sent) own ≡ Some own
+again_due own now [] some few over = absurd (omega arith)
+again_due own now (last ∷ earlier) some few over =
+    let due : nat_le (last + 3000) now ≡ true = grind (arith, nat_tests) in
+    let more : nat_lt (length (last ∷ earlier)) 10 ≡ true = grind (arith, nat_tests) in
+    rw (due, more) refl
+
+due_sent : (own : Packet) (before : AuthOutcome) (now : ℕ) (call : AuthCall) (past : List Answered) → IsDue before now call (sent_at past)
+    → own_sent own before past now call ≡ Some own
+due_sent own before now call past (inl b) =
+    ap (λ c. own_sent own before past now c) b.0 ∙ ap (λ sent. first_time sent own) b.1
+due_sent own before now call past (inr t) =
+    ap (λ c. own_sent own before past now c) t.0
+    ∙ ap (λ o. if is_waiting o then again (again_at now (sent_at past)) own else None) t.1
+    ∙ again_due own now (sent_at past) t.2 t.3 t.4
+
+due_is_own : (before : AuthOutcome) (now : ℕ) (call : AuthCall) (sent : List ℕ) → IsDue before now call sent → is_own call ≡ true
+due_is_own before now call sent (inl b) = ap is_own b.0
+due_is_own before now call sent (inr t) = ap is_own t.0
+
+are_sent : (own : Packet) (outcome : List Answered → AuthOutcome) (past : List Answered) → OwnSent own outcome past → AreSent own outcome past
+are_sent own outcome [] l = tt
+are_sent own outcome (h ∷ past) l = (
+  λ d. l.0 (due_is_own (outcome past) h.now h.call (sent_at past) d) ∙ due_sent own (outcome past) h.now h.call past d,
+  are_sent own outcome past l.1,
+)
+
+-- It is then one packet, whenever it is due, ten times at most, each time 3 seconds or more after the one before.
+pub sends_own : (own : Packet) (outcome : List Answered → AuthOutcome) (past : List Answered) → OwnSent own outcome past → SendsOwn own outcome past
 sends_own own outcome past l =
     let f = few own outcome past l in
-    record { same = always own outcome past l; few = f.few; apart = f.apart }
+    record { same = always own outcome past l; due = are_sent own outcome past l; few = f.few; apart = f.apart }
 
 due_over : (now : ℕ) (sent : List ℕ) → is_due_again now sent ≡ true → last_of sent + 3000 ≤ now
 due_over now [] e = absurd cc
