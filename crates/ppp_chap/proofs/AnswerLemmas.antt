@@ -1,21 +1,25 @@
 -- What a judge of CHAP answers to each response.
-use Rattle.std.proofs.Common.{◌≡◌, ℕ, ◌⊎◌, inl, inr, Bool, true, false, List, [], ◌∷◌, Option, None, Some, refl, sym, ap, ◌∙◌}
-use Rattle.std.specs.Prelude.{◌==◌, ◌&&◌, is_some, if◌then◌else◌}
+use Rattle.std.proofs.Common.{◌≡◌, ℕ, inl, inr, Bool, true, false, List, [], ◌∷◌, Option, None, Some, refl, sym, ap, subst, ◌∙◌}
+use Rattle.std.specs.Prelude.{is_some, if◌then◌else◌}
 use Rattle.ppp_packet.specs.declared.packet.Packet.{Packet}
 use Rattle.ppp_packet.specs.declared.auth_out.AuthOutcome.{AuthOutcome}
 use Rattle.ppp_packet.specs.declared.auth_out.AuthOutcome.TheVariants.{Waiting, Passed, Refused, Unanswered}
 use Rattle.ppp_proving.specs.Calls.{Against, AuthCall, hears, Answered, sent_at, first_of}
-use Rattle.ppp_proving.specs.Which.{NoneOf}
 use Rattle.ppp_chap.specs.Passes.{Passes}
 use Rattle.ppp_chap.specs.Judge.{AreLawful, outcome_in, response_in, said_by, sends, verdict_packet}
-use Rattle.ppp_chap.specs.Responses.{FirstResponds, FirstTires, GoesUnanswered, IsKnown, Responds}
+use Rattle.ppp_chap.specs.Responses.{FirstResponds, GoesUnanswered, Responds}
 use Rattle.ppp_chap.proofs.JudgeLemmas.{first_passed, first_refused, first_tired, none_waits, read_responds, response_read}
 
 -- A packet is answered by the outcome, where it is read as a response.
 by_reading : (name challenge : List ℕ) (past : List Answered) (now : ℕ) (call : AuthCall) (p : Packet) (a : Against) → call ≡ hears p a
     → sends name challenge past now call
     ≡ (if is_some (response_in p) then verdict_packet (first_of (outcome_in challenge past) (said_by challenge (sent_at past) now call)) else None)
-by_reading name challenge past now call p a refl = refl
+by_reading name challenge past now call p a e =
+    subst
+    (λ (c : AuthCall). sends name challenge past now c
+    ≡ (if is_some (response_in p) then verdict_packet (first_of (outcome_in challenge past) (said_by challenge (sent_at past) now c)) else None))
+    (sym e)
+    refl
 
 heard : (our_name challenge : List ℕ) (h : Answered) (past : List Answered) (p : Packet) (a : Against) → AreLawful our_name challenge (h ∷ past) → h.call ≡ hears p a
     → h.packet ≡ (if is_some (response_in p) then verdict_packet (outcome_in challenge (h ∷ past)) else None)
@@ -46,11 +50,11 @@ by_outcome our_name challenge h past p a outcome lawful e is none =
     heard our_name challenge h past p a lawful e
     ∙ ap (λ o. if is_some (response_in p) then verdict_packet o else None) is
     ∙ ap (λ v. if is_some (response_in p) then v else None) none
-    ∙ either (is_some (response_in p))
+    ∙ either (is_some (response_in p)) None
   where
-    either : (test : Bool) → (if test then None else None) ≡ None {Packet}
-    either true = refl
-    either false = refl
+    either : (test : Bool) (packet : Option Packet) → (if test then packet else packet) ≡ packet
+    either true packet = refl
+    either false packet = refl
 
 pub silent : (our_name challenge : List ℕ) (h : Answered) (past : List Answered) (p : Packet) (a : Against)
     → AreLawful our_name challenge (h ∷ past) → h.call ≡ hears p a → GoesUnanswered h past → h.packet ≡ None

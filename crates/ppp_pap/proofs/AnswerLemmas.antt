@@ -1,11 +1,10 @@
 -- What a judge of PAP answers to each request.
-use Rattle.std.proofs.Common.{◌≡◌, ℕ, List, [], ◌∷◌, Option, None, Some, inl, inr, ◌⊎◌, refl, ap, ◌∙◌}
+use Rattle.std.proofs.Common.{◌≡◌, ℕ, List, [], ◌∷◌, Option, None, Some, refl, ap, ◌∙◌}
 use Rattle.std.specs.Prelude.{is_some, if◌then◌else◌}
-use Rattle.ppp_packet.specs.declared.packet.Packet.{Packet}
 use Rattle.ppp_packet.specs.declared.auth_out.AuthOutcome.{AuthOutcome}
-use Rattle.ppp_packet.specs.declared.auth_out.AuthOutcome.TheVariants.{Waiting, Passed, Refused}
+use Rattle.ppp_packet.specs.declared.auth_out.AuthOutcome.TheVariants.{Passed, Refused}
 use Rattle.ppp_proving.specs.Calls.{Against, AuthCall, begins, hears, ticks, Answered}
-use Rattle.ppp_pap.specs.Judge.{AreLawful, outcome_in, request_in, said_by, sends, verdict_packet}
+use Rattle.ppp_pap.specs.Judge.{AreLawful, outcome_in, request_in, sends, verdict_packet}
 use Rattle.ppp_pap.specs.Passes.{Passes}
 use Rattle.ppp_pap.specs.Requests.{Asks, FirstAsks, IsRequest}
 use Rattle.ppp_pap.proofs.JudgeLemmas.{Requested, first_passed, first_refused, read_requested}

@@ -1,12 +1,12 @@
 -- The outcome of one who proves himself by PAP, by which calls are answers.
-use Rattle.std.proofs.Common.{◌≡◌, ℕ, ◌+◌, ◌≤◌, Bool, true, false, ◌⊎◌, inl, inr, List, [], ◌∷◌, length, Option, None, Some, refl, sym, ap, ◌∙◌, subst, arith}
-use Rattle.std.specs.Prelude.{◌==◌, ◌&&◌, is_some, if◌then◌else◌}
+use Rattle.std.proofs.Common.{◌≡◌, ℕ, ◌+◌, ◌≤◌, Bool, true, false, ◌⊎◌, inl, inr, List, [], ◌∷◌, length, Option, refl, sym, ap, ◌∙◌, subst, arith}
+use Rattle.std.specs.Prelude.{◌==◌, ◌&&◌, if◌then◌else◌}
 use Rattle.std.proofs.lemmas.Bool.{and_parts, and_from}
 use Rattle.std.proofs.lemmas.Bool.Decides.{Decides-eqb}
 use Rattle.ppp_packet.specs.declared.packet.Packet.{Packet}
 use Rattle.ppp_packet.specs.declared.auth_out.AuthOutcome.{AuthOutcome}
 use Rattle.ppp_packet.specs.declared.auth_out.AuthOutcome.TheVariants.{Waiting, Passed, Refused, Unanswered}
-use Rattle.ppp_proving.specs.Calls.{Against, AuthCall, begins, hears, ticks, Answered, is_own, is_waiting, sent_at, turned, where_sent}
+use Rattle.ppp_proving.specs.Calls.{Against, AuthCall, begins, hears, ticks, Answered, sent_at, turned, where_sent}
 use Rattle.ppp_proving.specs.Own.{SendsOwn}
 use Rattle.ppp_proving.specs.Resending.{again_at, last_of, unanswered}
 use Rattle.ppp_proving.specs.Which.{NoneOf, SomeOf, Tires}

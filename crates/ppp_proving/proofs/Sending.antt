@@ -4,7 +4,7 @@ use Rattle.std.specs.Prelude.{Option, None, Some, ⊤, is_some, nat_lt, nat_le, 
 use Rattle.ppp_proving.specs.declared.resending.Again.TheVariants.{Nothing, Send, GiveUp}
 use Rattle.std.proofs.lemmas.Bool.Decides.{nat_tests}
 use Rattle.ppp_packet.specs.declared.packet.Packet.{Packet}
-use Rattle.ppp_proving.specs.Calls.{Against, AuthCall, begins, hears, ticks, Answered, is_due_again, is_own, is_waiting, sent_at}
+use Rattle.ppp_proving.specs.Calls.{AuthCall, begins, hears, ticks, Answered, is_due_again, is_own, is_waiting, sent_at}
 use Rattle.ppp_packet.specs.declared.auth_out.AuthOutcome.{AuthOutcome}
 use Rattle.ppp_packet.specs.declared.auth_out.AuthOutcome.TheVariants.{Waiting, Unanswered}
 use Rattle.ppp_proving.specs.declared.resending.Again.{Again}

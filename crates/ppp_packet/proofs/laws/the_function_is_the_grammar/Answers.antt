@@ -1,5 +1,5 @@
 -- What the call that reads a packet says of its octets, said of the octets alone.
-use Rattle.std.proofs.Common.{◌≡◌, ℕ, List, Option, Some, None, Result, Ok, Err, IfOk, refl, sym, ap, subst, ◌∙◌}
+use Rattle.std.proofs.Common.{◌≡◌, ℕ, List, Some, Result, Ok, Err, IfOk, sym, ap, subst, ◌∙◌}
 use Rattle.std.specs.Result.{result_ok}
 use Rattle.ppp_packet.specs.PacketOf.{PacketOf, packet_in}
 use Rattle.ppp_packet.specs.declared.fault.PacketFault.{PacketFault}
