@@ -1,15 +1,15 @@
 -- What the objects in memory answer, by computing with the definitions alone.
-use Rattle.std.proofs.Common.{◌≡◌, ℕ, Bool, true, false, List, [], ◌∷◌, Option, None, Some, refl}
+use Rattle.std.proofs.Common.{◌≡◌, ℕ, true, false, List, [], ◌∷◌, None, Some, refl}
 use Rattle.std.specs.Prelude.{codes}
 use Rattle.ppp_base.specs.declared.signal_word.SignalWord.TheVariants.{Hup, Usr2}
 use Rattle.ppp_memory.specs.Clock.{ClockInMemory, after_reading, reading_of, state_of as clock_state_of}
 use Rattle.ppp_memory.specs.Control.{ControlInMemory, answer_of as word_of, after_next}
-use Rattle.ppp_memory.specs.Dialer.{DialerInMemory, LineHalves, is_refused}
+use Rattle.ppp_memory.specs.Dialer.{is_refused}
 use Rattle.ppp_memory.specs.Iface.{IfaceInInMemory, answer_of as packet_answer, buffer_after, packet_of}
 use Rattle.ppp_memory.specs.Line.{LineInMemory, after_read, answer_of, buffer_with}
 use Rattle.ppp_memory.specs.declared.line.LineTurn.{LineTurn}
 use Rattle.ppp_memory.specs.declared.line.LineTurn.TheVariants as turn
-use Rattle.ppp_outside.specs.Files.{NamedFile, file_of}
+use Rattle.ppp_outside.specs.Files.{file_of}
 use Rattle.ppp_outside.specs.declared.control.Word.TheVariants as word
 use Rattle.ppp_outside.specs.declared.dialer.DialNext.TheVariants as next
 use Rattle.ppp_outside.specs.declared.iface.IfaceGot.TheVariants as packet
