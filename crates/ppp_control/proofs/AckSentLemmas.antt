@@ -1,6 +1,6 @@
 -- What every acknowledged option passes: an Ack is sent for a request of which no option is rejected or named.
 use Rattle.std.proofs.Common.{◌≡◌, ℕ, ◌<◌, Bool, true, false, cond, Option, Some, None, List, [], ◌∷◌, ◌++◌, refl, ap, sym, ◌∙◌, subst}
-use Rattle.std.specs.Prelude.{◌==◌, ◌&&◌, ◌||◌, not, filter, option_map, option_to_list}
+use Rattle.std.specs.Prelude.{◌==◌, ◌&&◌, ◌||◌, not, is_some, filter, option_map, option_to_list}
 use Rattle.ppp_fsm.specs.declared.event.FsmEvent.{FsmEvent}
 use Rattle.ppp_fsm.specs.declared.event.FsmEvent.TheVariants.{Up, Down, Open, Close, Timeout, RcrGood, RcrBad, Rca, Rcn, Rtr, Rta, Ruc, RxjGood, RxjBad, Rxr}
 use Rattle.ppp_fsm.specs.declared.acts.Act.{Act}
@@ -20,7 +20,7 @@ use Rattle.ppp_control.specs.Answers.{Judgement, Answer, acknowledges, suggests,
 use Rattle.ppp_control.specs.Class.{class_of}
 use Rattle.ppp_control.specs.Given.{Given}
 use Rattle.ppp_control.specs.OwnPackets.{packet, request_packet, terminate_packet, verdict_packet}
-use Rattle.ppp_control.specs.Past.{Happened, onto, sent_in, last_of, options_in}
+use Rattle.ppp_control.specs.Past.{Happened, is_timeout, last_request, id_in, next_id_after, onto, sent_in, last_of, options_in}
 use Rattle.ppp_control.specs.Rules.{Rules, Call, by_itself, ticks, hears, rejects, Called, AllLawful, IsLawful, happened_in, heard_in, verdict_in, event_in, comes_with, comes_heard, aside, sends_on, acts_on}
 use Rattle.ppp_control.specs.Sent.{each, sent_for, sent_at}
 use Rattle.ppp_control.specs.Verdict.{verdict_of, event_on}
@@ -69,9 +69,12 @@ other_code : {X : Type 0} (fits : List Item → Type 0) (f : X → Packet) (o : 
 other_code fits f None h = tt
 other_code fits f (Some x) h = ((λ e. clash (sym (h x) ∙ e)), tt)
 
-or_else : {X : Type 0} (fits : List Item → Type 0) (b : Bool) (x y : Option Packet) → AllCarry fits (option_to_list x) → AllCarry fits (option_to_list y) → AllCarry fits (option_to_list (cond b x y))
+or_else : (fits : List Item → Type 0) (b : Bool) (x y : Option Packet) → AllCarry fits (option_to_list x) → AllCarry fits (option_to_list y) → AllCarry fits (option_to_list (cond b x y))
 or_else fits true x y h k = h
 or_else fits false x y h k = k
+
+pub no_ack : (fits : List Item → Type 0) (p : Packet) → (p.code == 2) ≡ false → AllCarry fits (p ∷ [])
+no_ack fits p e = ((λ x. clash (sym e ∙ x)), tt)
 
 verdict_carries : (fits : List Item → Type 0) (id : ℕ) (v : Verdict) → AllCarry fits (option_to_list (verdict_packet id v))
 verdict_carries fits id Ack = tt
@@ -82,11 +85,11 @@ verdict_carries fits id (Reject items) = ((λ e. clash e), tt)
 act_carries : (fits : List Item → Type 0) (g : Given) (event : FsmEvent) (past : List Happened) (act : Act) (acts : List Act) → (has Sca (act ∷ acts) ≡ true → fits g.theirs)
     → AllCarry fits (option_to_list (sent_for g event past act)) × (has Sca acts ≡ true → fits g.theirs)
 act_carries fits g event past Sca acts h = (((λ e. subst fits (sym (items_of-laid g.theirs)) (h refl)), tt), λ e. h refl)
-act_carries fits g event past Scr acts h = (or_else {Packet} fits _ _ _ (other_code fits request_packet _ (λ x. refl)) ((λ e. clash e), tt), h)
-act_carries fits g event past Str acts h = (or_else {Packet} fits _ _ _ (other_code fits terminate_packet _ (λ x. refl)) ((λ e. clash e), tt), h)
+act_carries fits g event past Scr acts h = (or_else fits (is_timeout (Some event) && is_some (last_request (sent_in past))) (option_map request_packet (last_request (sent_in past))) (Some (packet 1 (next_id_after past) (laid g.asked))) (other_code fits request_packet (last_request (sent_in past)) (λ x. refl)) (no_ack fits (packet 1 (next_id_after past) (laid g.asked)) refl), h)
+act_carries fits g event past Str acts h = (or_else fits (is_timeout (Some event) && is_some (option_map id_in (last_of 5 (sent_in past)))) (option_map terminate_packet (option_map id_in (last_of 5 (sent_in past)))) (Some (packet 5 (next_id_after past) [])) (other_code fits terminate_packet (option_map id_in (last_of 5 (sent_in past))) (λ x. refl)) (no_ack fits (packet 5 (next_id_after past) []) refl), h)
 act_carries fits g event past Scn acts h = (verdict_carries fits g.id g.verdict, h)
-act_carries fits g event past Sta acts h = (((λ e. clash e), tt), h)
-act_carries fits g event past Scj acts h = (((λ e. clash e), tt), h)
+act_carries fits g event past Sta acts h = (no_ack fits (packet 6 g.id []) refl, h)
+act_carries fits g event past Scj acts h = (no_ack fits (packet 7 (next_id_after past) g.rejected) refl, h)
 act_carries fits g event past Ser acts h = (other_code fits (λ body. packet 10 g.id body) g.reply (λ x. refl), h)
 act_carries fits g event past Zrc acts h = (tt, h)
 act_carries fits g event past Irc acts h = (tt, h)

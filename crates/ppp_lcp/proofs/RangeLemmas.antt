@@ -1,19 +1,22 @@
 -- The MRU that is told as agreed is 128 to 1500, because no smaller one is acknowledged.
 use Rattle.std.proofs.Common.{◌≡◌, ℕ, ◌≤◌, Bool, true, false, cond, Option, Some, None, List, [], ◌∷◌, refl, ap, sym, ◌∙◌, subst, arith}
 use Rattle.std.specs.Prelude.{◌==◌, ◌&&◌, nat_le, min, length, filter, option_map}
+use Rattle.std.specs.Int.{to_be_bytes, w32}
 use Rattle.std.proofs.lemmas.Bool.{leb-true}
 use Rattle.ppp_packet.specs.declared.packet.Packet.{Packet}
 use Rattle.ppp_packet.specs.declared.agreed.Agreed.{Agreed}
 use Rattle.ppp_packet.specs.OptionsOf.{Item}
 use Rattle.ppp_control.specs.Answers.{Judgement, acks, names, rejects, is_rejected, is_named, rejected, named}
 use Rattle.ppp_control.specs.Changes.{last_from, last_body}
-use Rattle.ppp_control.specs.Past.{Agreement, options_in, last_acked, last_of, sent_in}
+use Rattle.ppp_control.specs.OwnPackets.{packet}
+use Rattle.ppp_control.specs.Past.{Agreement, next_id_after, options_in, last_acked, last_of, sent_in}
 use Rattle.ppp_control.specs.Rules.{Rules, Call, by_itself, ticks, hears, rejects as Rejecting, Called, aside, happened_in}
-use Rattle.ppp_control.proofs.AckSentLemmas.{AllCarry, clash, ack_fits}
+use Rattle.ppp_control.proofs.AckSentLemmas.{AllCarry, clash, no_ack, ack_fits}
 use Rattle.ppp_lcp.specs.declared.wish.LcpWish.{LcpWish}
 use Rattle.ppp_lcp.specs.declared.lcp.Lcp.{Lcp}
 use Rattle.ppp_lcp.specs.Last.{number2_or, agreed_by, IsInRange}
-use Rattle.ppp_lcp.specs.Session.{LcpCall, is_open_in, is_lost, echo_after, unanswered_in, rules, agreed_after, StandsFor}
+use Rattle.ppp_lcp.specs.Session.{LcpCall, is_open_in, is_lost, magic_in, peer_mru_in, echo_after, unanswered_in, rules, agreed_after, StandsFor}
+use Rattle.ppp_lcp.specs.Magic.{cut_information}
 use Rattle.ppp_lcp.specs.Table.{judged_where, mru_judged, number2}
 use Rattle.ppp_timer.specs.Due.{has_come}
 
@@ -45,8 +48,13 @@ two_octets false enough e f = clash (sym e)
 one_fits : (wish : LcpWish) (multilink : Bool) (ours word : ℕ) (i : Item) → (i.kind == 1) ≡ true → is_rejected (judged_where wish multilink ours word i) ≡ false → is_named (judged_where wish multilink ours word i) ≡ false
     → FitsOne (Some i.body)
 one_fits wish multilink ours word i e f g =
-    let both = two_octets (length i.body == 2) (nat_le 128 (number2 i.body)) (subst (λ b. is_rejected (cond b (mru_judged i.body) _) ≡ false) e f) (subst (λ b. is_named (cond b (mru_judged i.body) _) ≡ false) e g) in
+    let same : judged_where wish multilink ours word i ≡ mru_judged i.body = first (i.kind == 1) (mru_judged i.body) _ e in
+    let both = two_octets (length i.body == 2) (nat_le 128 (number2 i.body)) (ap is_rejected (sym same) ∙ f) (ap is_named (sym same) ∙ g) in
     ap (λ b. nat_le 128 (cond b (number2 i.body) 1500)) both.0 ∙ both.1
+  where
+    first : (b : Bool) (x y : Judgement) → b ≡ true → cond b x y ≡ x
+    first true x y e = refl
+    first false x y e = clash e
 
 fits_from : (wish : LcpWish) (multilink : Bool) (ours word : ℕ) (items : List Item) (found : Option (List ℕ)) → rejected (judged_where wish multilink ours word) items ≡ [] → named (judged_where wish multilink ours word) items ≡ []
     → FitsOne found → FitsOne (last_from found 1 items)
@@ -66,9 +74,14 @@ if_carries false xs ys h k = k
 
 quiet : (wish : LcpWish) (words : ℕ) (past : List LcpCall) (now : ℕ) (call : Call (Unit {0})) → AllCarry Fits (aside (rules wish words) past now call)
 quiet wish words past now (by_itself own) = tt
-quiet wish words past now ticks = if_carries (has_come now (echo_after wish past)) _ _ (if_carries (is_lost wish (min (unanswered_in wish words past) 255)) _ _ tt ((λ e. clash e), tt)) tt
+quiet wish words past now ticks =
+    let echo : Packet = packet 9 (next_id_after (happened_in past)) (to_be_bytes w32 (magic_in wish words past)) in
+    let lost : Bool = is_lost wish (min (unanswered_in wish words past) 255) in
+    if_carries (has_come now (echo_after wish past)) (cond lost [] (echo ∷ [])) [] (if_carries lost [] (echo ∷ []) tt (no_ack Fits echo refl)) tt
 quiet wish words past now (hears p a) = tt
-quiet wish words past now (Rejecting protocol information) = if_carries (is_open_in wish past) _ _ ((λ e. clash e), tt) tt
+quiet wish words past now (Rejecting protocol information) =
+    let rejection : Packet = packet 8 (next_id_after (happened_in past)) (cut_information (peer_mru_in past) protocol information) in
+    if_carries (is_open_in wish past) (rejection ∷ []) [] (no_ack Fits rejection refl) tt
 
 in_range : (opened : Bool) (ours theirs : List Item) → Fits theirs → IsInRange (option_map (λ both. agreed_by both.ours both.theirs) (cond opened (Some (two ours theirs)) None))
 in_range true ours theirs h = (omega (arith, leb-true _ _ h), omega arith)
