@@ -1,8 +1,8 @@
 -- What every acknowledged option passes: an Ack is sent for a request of which no option is rejected or named.
-use Rattle.std.proofs.Common.{◌≡◌, ℕ, ◌<◌, Bool, true, false, cond, Option, Some, None, List, [], ◌∷◌, ◌++◌, refl, ap, sym, ◌∙◌, subst}
-use Rattle.std.specs.Prelude.{◌==◌, ◌&&◌, ◌||◌, not, is_some, filter, option_map, option_to_list}
+use Rattle.std.proofs.Common.{◌≡◌, ℕ, Bool, true, false, cond, Option, Some, None, List, [], ◌∷◌, ◌++◌, refl, ap, sym, ◌∙◌, subst}
+use Rattle.std.specs.Prelude.{◌==◌, ◌&&◌, ◌||◌, not, is_some, option_map, option_to_list}
 use Rattle.ppp_fsm.specs.declared.event.FsmEvent.{FsmEvent}
-use Rattle.ppp_fsm.specs.declared.event.FsmEvent.TheVariants.{Up, Down, Open, Close, Timeout, RcrGood, RcrBad, Rca, Rcn, Rtr, Rta, Ruc, RxjGood, RxjBad, Rxr}
+use Rattle.ppp_fsm.specs.declared.event.FsmEvent.TheVariants.{RcrGood}
 use Rattle.ppp_fsm.specs.declared.acts.Act.{Act}
 use Rattle.ppp_fsm.specs.declared.acts.Act.TheVariants.{Tlu, Tld, Tls, Tlf, Irc, Zrc, Scr, Sca, Scn, Str, Sta, Scj, Ser}
 use Rattle.ppp_fsm.specs.Acts.{has}
@@ -16,13 +16,13 @@ use Rattle.ppp_control.specs.declared.classes.HeardAs.{HeardAs}
 use Rattle.ppp_control.specs.declared.classes.HeardAs.TheVariants.{Request as Asks, Ack as Acked, Nak as Named, Reject as Rejected, Event, Discarded}
 use Rattle.ppp_control.specs.declared.judging.Verdict.{Verdict}
 use Rattle.ppp_control.specs.declared.judging.Verdict.TheVariants.{Ack, Nak, Reject}
-use Rattle.ppp_control.specs.Answers.{Judgement, Answer, acknowledges, suggests, refuses, rejected, named, renamed, named_or, rejected_or, answer_to}
+use Rattle.ppp_control.specs.Answers.{Judgement, Answer, rejected, named, renamed, named_or, rejected_or, answer_to}
 use Rattle.ppp_control.specs.Class.{class_of}
 use Rattle.ppp_control.specs.Given.{Given}
 use Rattle.ppp_control.specs.OwnPackets.{packet, request_packet, terminate_packet, verdict_packet}
 use Rattle.ppp_control.specs.Past.{Happened, is_timeout, last_request, id_in, next_id_after, onto, sent_in, last_of, options_in}
 use Rattle.ppp_control.specs.Rules.{Rules, Call, by_itself, ticks, hears, rejects, Called, AllLawful, IsLawful, happened_in, heard_in, verdict_in, event_in, comes_with, comes_heard, aside, sends_on, acts_on}
-use Rattle.ppp_control.specs.Sent.{each, sent_for, sent_at}
+use Rattle.ppp_control.specs.Sent.{each, sent_for}
 use Rattle.ppp_control.specs.Verdict.{verdict_of, event_on}
 
 -- a packet, if it is an Ack, carries options of which this holds

@@ -1,23 +1,16 @@
 -- No step sends an Echo-Request, and it sends a Nak where the answer is one and is sent.
-use Rattle.std.proofs.Common.{◌≡◌, ℕ, Bool, true, false, cond, Option, Some, None, List, [], ◌∷◌, ◌++◌, refl, ap, sym, ◌∙◌, subst}
-use Rattle.std.specs.Prelude.{◌==◌, ◌&&◌, ◌||◌, nat_lt, nat_le, nat_eq, length, slice_index, option_map, option_to_list, find}
+use Rattle.std.proofs.Common.{◌≡◌, ℕ, Bool, true, false, cond, Option, Some, None, List, [], ◌∷◌, ◌++◌, refl, ap, ◌∙◌}
+use Rattle.std.specs.Prelude.{◌==◌, ◌||◌, option_map, option_to_list, find}
 use Rattle.std.specs.List.{list_any}
-use Rattle.std.specs.Cmp.Lexicographic.{pointwise}
 use Rattle.ppp_fsm.specs.declared.event.FsmEvent.{FsmEvent}
-use Rattle.ppp_fsm.specs.declared.event.FsmEvent.TheVariants.{Rtr, Rta, Ruc, RxjGood, RxjBad, Rxr}
 use Rattle.ppp_fsm.specs.declared.acts.Act.{Act}
 use Rattle.ppp_fsm.specs.declared.acts.Act.TheVariants.{Tlu, Tld, Tls, Tlf, Irc, Zrc, Scr, Sca, Scn, Str, Sta, Scj, Ser}
 use Rattle.ppp_fsm.specs.Fsm.{acts_of}
 use Rattle.ppp_packet.specs.declared.packet.Packet.{Packet}
-use Rattle.ppp_packet.specs.OptionsOf.{Item, laid}
-use Rattle.ppp_packet.specs.OptionList.{read_options}
-use Rattle.ppp_control.specs.declared.parts.Request.{Request}
-use Rattle.ppp_control.specs.declared.classes.HeardAs.{HeardAs}
-use Rattle.ppp_control.specs.declared.classes.HeardAs.TheVariants.{Request as Asks, Ack as Acked, Nak as Named, Reject as Rejected, Event, Discarded}
+use Rattle.ppp_packet.specs.OptionsOf.{laid}
 use Rattle.ppp_control.specs.declared.negotiation.Negotiation.{Negotiation}
 use Rattle.ppp_control.specs.declared.judging.Verdict.{Verdict}
 use Rattle.ppp_control.specs.declared.judging.Verdict.TheVariants.{Ack, Nak, Reject}
-use Rattle.ppp_control.specs.Class.{heard_as, asks_of, nak_of, reject_of, is_last, last_options, is_selection}
 use Rattle.ppp_control.specs.Given.{Given}
 use Rattle.ppp_control.specs.Step.{left_by, sent_by, sent_by_all, moved, step_sends, requested, terminated}
 use Rattle.ppp_control.specs.OwnPackets.{packet, request_packet, terminate_packet, verdict_packet}

@@ -1,9 +1,7 @@
 -- A step, and a call that is no event, keep what looking back says.
-use Rattle.std.proofs.Common.{◌≡◌, ℕ, Bool, true, false, cond, Option, Some, None, List, [], ◌∷◌, refl, ap, sym, ◌∙◌, subst}
-use Rattle.std.specs.Prelude.{option_to_list}
+use Rattle.std.proofs.Common.{◌≡◌, ℕ, Bool, true, false, cond, Some, None, List, [], ◌∷◌, refl, ap, sym, ◌∙◌, subst}
 use Rattle.ppp_fsm.specs.declared.event.FsmEvent.{FsmEvent}
-use Rattle.ppp_fsm.specs.declared.acts.Act.{Act}
-use Rattle.ppp_fsm.specs.Fsm.{Automaton, acts_of}
+use Rattle.ppp_fsm.specs.Fsm.{acts_of}
 use Rattle.ppp_packet.specs.declared.packet.Packet.{Packet}
 use Rattle.ppp_control.specs.declared.negotiation.Negotiation.{Negotiation}
 use Rattle.ppp_control.specs.declared.classes.HeardAs.{HeardAs}
@@ -13,10 +11,9 @@ use Rattle.ppp_control.specs.OwnPackets.{packet}
 use Rattle.ppp_control.specs.Start.{started}
 use Rattle.ppp_control.specs.Step.{stepped, step_sends, next_of}
 use Rattle.ppp_control.specs.Class.{class_of}
-use Rattle.ppp_control.specs.Verdict.{event_on}
 use Rattle.ppp_control.specs.Past.{Happened, automaton_after, negotiation_after, is_timeout}
 use Rattle.ppp_control.specs.Sent.{sent_at}
-use Rattle.ppp_control.specs.Rules.{Rules, Call, by_itself, ticks, hears, rejects, Called, Negotiates, IsLawful, happened_in, heard_in, verdict_in, event_in, comes_with, comes_heard, acts_on, aside, sends_on}
+use Rattle.ppp_control.specs.Rules.{Rules, Call, by_itself, ticks, hears, rejects, Called, Negotiates, happened_in, heard_in, verdict_in, event_in, comes_with, comes_heard, aside}
 use Rattle.ppp_control.proofs.TimingLemmas.{step_back, quiet_back, numbered_back}
 use Rattle.ppp_control.proofs.AckedLemmas.{acked_back}
 use Rattle.ppp_control.proofs.SentLemmas.{sends_back}

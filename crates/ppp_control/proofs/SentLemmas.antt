@@ -1,12 +1,12 @@
 -- What a step sends is what looking back says, act by act.
-use Rattle.std.proofs.Common.{◌≡◌, ℕ, ◌+◌, Bool, true, false, cond, Option, Some, None, List, [], ◌∷◌, ◌++◌, refl, ap, sym, ◌∙◌, zero, suc}
+use Rattle.std.proofs.Common.{◌≡◌, ℕ, Bool, true, false, cond, Option, Some, List, [], ◌∷◌, ◌++◌, refl, ap, sym, ◌∙◌, zero, suc}
 use Rattle.std.specs.Prelude.{◌&&◌, not, slice_index_or, nat_eq, if◌then◌else◌, is_some, option_map, option_to_list}
 use Rattle.ppp_fsm.specs.declared.event.FsmEvent.{FsmEvent}
 use Rattle.ppp_fsm.specs.declared.event.FsmEvent.TheVariants.{Up, Down, Open, Close, Timeout, RcrGood, RcrBad, Rca, Rcn, Rtr, Rta, Ruc, RxjGood, RxjBad, Rxr}
 use Rattle.ppp_fsm.specs.declared.acts.Act.{Act}
 use Rattle.ppp_fsm.specs.declared.acts.Act.TheVariants.{Tlu, Tld, Tls, Tlf, Irc, Zrc, Scr, Sca, Scn, Str, Sta, Scj, Ser}
 use Rattle.ppp_fsm.specs.declared.fsm.Limits.{Limits}
-use Rattle.ppp_fsm.specs.Fsm.{Automaton, Entry, never, go, row_of, timeout_at_0, timeout_above, acts_in, acts_of, after}
+use Rattle.ppp_fsm.specs.Fsm.{Automaton, Entry, never, row_of, timeout_at_0, timeout_above, acts_in, acts_of}
 use Rattle.ppp_packet.specs.declared.packet.Packet.{Packet}
 use Rattle.ppp_packet.specs.OptionsOf.{laid}
 use Rattle.ppp_control.specs.declared.parts.Request.{Request}
@@ -14,8 +14,8 @@ use Rattle.ppp_control.specs.declared.negotiation.Negotiation.{Negotiation}
 use Rattle.ppp_control.specs.declared.judging.Verdict.{Verdict}
 use Rattle.ppp_control.specs.declared.judging.Verdict.TheVariants.{Ack, Nak, Reject}
 use Rattle.ppp_control.specs.Given.{Given}
-use Rattle.ppp_control.specs.Step.{left_by, sent_by, sent_by_all, moved, step_sends, requested, terminated, answered, restarted, next_of}
-use Rattle.ppp_control.specs.OwnPackets.{packet, request_packet, terminate_packet, verdict_packet}
+use Rattle.ppp_control.specs.Step.{left_by, sent_by, sent_by_all, moved, step_sends, answered}
+use Rattle.ppp_control.specs.OwnPackets.{packet, request_packet, terminate_packet}
 use Rattle.ppp_control.specs.Past.{Happened, sent_in, last_of, last_request, id_in, next_id_after, is_timeout, negotiation_after}
 use Rattle.ppp_control.specs.Sent.{sent_for, each, sent_at}
 

@@ -1,5 +1,5 @@
 -- What changes our request in a negotiation (RFC 1661, sections 5.3 and 5.4).
-use Rattle.std.specs.Prelude.{ℕ, ◌==◌, ◌||◌, Bool, true, false, if◌then◌else◌, Option, Some, None, List, [], ◌∷◌}
+use Rattle.std.specs.Prelude.{ℕ, ◌==◌, ◌||◌, Bool, false, if◌then◌else◌, Option, Some, None, List, [], ◌∷◌}
 use Rattle.ppp_packet.specs.OptionsOf.{Item, item}
 
 -- A Nak or a Reject of our last request; and, since a protocol may draw what it names, a Nak that we sent. A list of changes has the newest first.

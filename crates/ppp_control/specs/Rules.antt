@@ -1,6 +1,6 @@
 -- A negotiation by looking back, for any protocol: which event each call is, what the automaton does at it, and what is sent
 -- (RFC 1661, sections 4.3 to 4.6 and 5).
-use Rattle.std.specs.Prelude.{ℕ, ◌≡◌, nat_le, min, Bool, true, false, if◌then◌else◌, Option, Some, None, is_some, List, [], ◌∷◌, ◌++◌, find, ◌==◌}
+use Rattle.std.specs.Prelude.{ℕ, ◌≡◌, nat_le, min, Bool, true, false, if◌then◌else◌, Option, Some, None, List, [], ◌∷◌, ◌++◌, find, ◌==◌}
 use Rattle.ppp_timer.specs.Due.{has_come}
 use Rattle.ppp_base.specs.declared.code.TheConstants.{CONFIGURE_NAK}
 use Rattle.ppp_fsm.specs.declared.event.FsmEvent.{FsmEvent}

@@ -1,13 +1,12 @@
 -- A step of a negotiation: what each act of the automaton sends and changes.
 use Rattle.std.specs.Prelude.{ℕ, ◌+◌, ◌%◌, min, nat_lt, ◌&&◌, if◌then◌else◌, Option, Some, None, is_some, option_map, option_to_list, List, [], ◌∷◌, ◌++◌}
-use Rattle.ppp_base.specs.declared.code.TheConstants.{CODE_REJECT, CONFIGURE_ACK, CONFIGURE_NAK, CONFIGURE_REJECT, CONFIGURE_REQUEST, ECHO_REPLY, TERMINATE_ACK, TERMINATE_REQUEST}
+use Rattle.ppp_base.specs.declared.code.TheConstants.{CODE_REJECT, CONFIGURE_ACK, ECHO_REPLY, TERMINATE_ACK}
 use Rattle.ppp_fsm.specs.declared.event.FsmEvent.{FsmEvent}
 use Rattle.ppp_fsm.specs.declared.acts.Act.{Act}
 use Rattle.ppp_fsm.specs.declared.acts.Act.TheVariants.{Zrc, Scr, Sca, Scn, Str, Sta, Scj, Ser}
 use Rattle.ppp_fsm.specs.Fsm.{acts_of, after}
 use Rattle.ppp_packet.specs.declared.packet.Packet.{Packet}
 use Rattle.ppp_packet.specs.OptionsOf.{laid}
-use Rattle.ppp_control.specs.declared.parts.Request.{Request}
 use Rattle.ppp_control.specs.Given.{Given}
 use Rattle.ppp_control.specs.OwnPackets.{packet, request_packet, terminate_packet, verdict_packet}
 use Rattle.ppp_control.specs.declared.judging.Verdict.{Verdict}

@@ -9,12 +9,12 @@ ghost use Rattle.ppp_control.specs.Past.{is_timeout};
 ghost use Rattle.ppp_fsm.specs.Fsm.{acts_of, after};
 ghost use Rattle.ppp_fsm.specs.declared.event.FsmEvent.TheVariants.{Timeout};
 
-use arrayvec::ArrayVec;
 use crate::classes::{HeardAs, class};
 use crate::cutting::cut;
 use crate::judging::Verdict;
 use crate::packets::Packets;
 use crate::parts::{Codes, Parts, Request};
+use arrayvec::ArrayVec;
 use ppp_base::code;
 use ppp_fsm::{Act, Acts, Fsm, FsmEvent, Limits};
 use ppp_packet::{Body, OptionList, Packet};

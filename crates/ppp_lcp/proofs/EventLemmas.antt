@@ -4,14 +4,13 @@ use Rattle.std.specs.Prelude.{◌==◌, ◌&&◌, not, min}
 use Rattle.ppp_timer.specs.Due.{has_come}
 use Rattle.ppp_fsm.specs.declared.event.FsmEvent.{FsmEvent}
 use Rattle.ppp_fsm.specs.declared.event.FsmEvent.TheVariants.{Timeout, Rca, Rcn}
-use Rattle.ppp_fsm.specs.declared.acts.Act.{Act}
-use Rattle.ppp_fsm.specs.Fsm.{Automaton, acts_of, after}
+use Rattle.ppp_fsm.specs.Fsm.{Automaton, after}
 use Rattle.ppp_fsm.specs.Opening.{layer_acts, layer_change}
 use Rattle.ppp_fsm.proofs.OpeningLemmas.{opens_by_acts}
 use Rattle.ppp_packet.specs.declared.packet.Packet.{Packet}
 use Rattle.ppp_control.specs.declared.classes.HeardAs.{HeardAs}
 use Rattle.ppp_control.specs.declared.classes.HeardAs.TheVariants.{Request as Asks, Ack as Acked, Nak as Named, Reject as Rejected, Event, Discarded}
-use Rattle.ppp_control.specs.Class.{class_of, heard_as}
+use Rattle.ppp_control.specs.Class.{class_of}
 use Rattle.ppp_control.specs.Past.{moved_by}
 use Rattle.ppp_control.specs.OwnPackets.{packet}
 use Rattle.ppp_control.specs.Rules.{acts_on}
@@ -24,8 +23,8 @@ use Rattle.ppp_lcp.specs.declared.out.LcpOut.{LcpOut}
 use Rattle.ppp_lcp.specs.Magic.{cut_information}
 use Rattle.ppp_lcp.specs.Out.{no_event}
 use Rattle.ppp_lcp.specs.Session.{mru_in, next_echo}
-use Rattle.ppp_lcp.specs.Negotiating.{plain, with_packet, with_nak, with_reject, with_reply, with_loops, answering, event_left, event_told, heard_lcp, heard_told, is_failed, echo_body, echoed, echo_told, ticked, ticked_told, rejecting, rejecting_told}
-use Rattle.ppp_lcp.specs.Object.{magic_now, verdict_on}
+use Rattle.ppp_lcp.specs.Negotiating.{plain, with_packet, with_nak, with_reject, with_loops, answering, event_left, event_told, heard_lcp, heard_told, is_failed, echo_body, echoed, echo_told, ticked, ticked_told, rejecting, rejecting_told}
+use Rattle.ppp_lcp.specs.Object.{verdict_on}
 
 -- Opened is entered and left by the acts.
 pub opens_by : (l new : Lcp) (out : LcpOut) → out.acts ≡ acts_on l.core.fsm out.event → new.core.fsm ≡ moved_by out.event l.core.fsm

@@ -1,6 +1,6 @@
 -- What a packet that was heard leaves and tells, is what looking back gives.
 use Rattle.std.proofs.Common.{◌≡◌, ℕ, ◌+◌, ◌*◌, Bool, true, false, cond, Option, Some, None, List, [], ◌∷◌, ◌++◌, refl, ap, sym, ◌∙◌, subst}
-use Rattle.std.specs.Prelude.{◌==◌, ◌&&◌, not, min, nat_le, length, option_map, find}
+use Rattle.std.specs.Prelude.{◌&&◌, min}
 use Rattle.std.specs.List.{list_any}
 use Rattle.ppp_fsm.specs.declared.event.FsmEvent.{FsmEvent}
 use Rattle.ppp_fsm.specs.declared.event.FsmEvent.TheVariants.{Rca, Rcn}
@@ -17,17 +17,16 @@ use Rattle.ppp_control.specs.Changes.{by_nak, by_reject}
 use Rattle.ppp_control.specs.Given.{Given, by_packet, by_request}
 use Rattle.ppp_control.specs.Step.{step_sends}
 use Rattle.ppp_control.specs.Verdict.{event_on}
-use Rattle.ppp_control.specs.Rules.{Rules, Call, hears, heard_in, changes_heard, changes_in, our_nak, is_nak, is_scn, verdict_in, comes_heard}
-use Rattle.ppp_control.proofs.HeardLemmas.{nak_in, nak_sent}
+use Rattle.ppp_control.specs.Rules.{Rules, hears, heard_in, changes_heard, changes_in, our_nak, is_scn, verdict_in, comes_heard}
+use Rattle.ppp_control.proofs.HeardLemmas.{nak_sent}
 use Rattle.ppp_lcp.specs.declared.lcp.Lcp.{Lcp}
 use Rattle.ppp_lcp.specs.declared.out.LcpOut.{LcpOut}
 use Rattle.ppp_lcp.specs.declared.ours.Ours.{Ours}
-use Rattle.ppp_lcp.specs.declared.wish.LcpWish.{LcpWish}
 use Rattle.ppp_lcp.specs.Magic.{has_magic}
 use Rattle.ppp_lcp.specs.Ours.{skipped}
-use Rattle.ppp_lcp.specs.Negotiating.{answering, with_packet, with_loops, with_nak, with_reject, with_reply, is_answer, heard_lcp, heard_told, refused_by}
-use Rattle.ppp_lcp.specs.Object.{magic_now, verdict_on, limit_of, agreed_in}
-use Rattle.ppp_lcp.specs.Session.{LcpCall, is_open_in, magic_in, own_by, own_requests, in_a_row, is_loop, is_reply, is_reply_by, unanswered_in, reply_to, rules, session_after, StandsFor, called, agreed_after, method_refused_by, network_refused_by, Tells}
+use Rattle.ppp_lcp.specs.Negotiating.{answering, with_packet, with_loops, with_nak, with_reject, with_reply, is_answer, heard_lcp, heard_told}
+use Rattle.ppp_lcp.specs.Object.{magic_now, verdict_on, limit_of}
+use Rattle.ppp_lcp.specs.Session.{LcpCall, is_open_in, magic_in, own_by, own_requests, in_a_row, is_loop, is_reply_by, unanswered_in, reply_to, rules, session_after, StandsFor, called, agreed_after, method_refused_by, network_refused_by, Tells}
 use Rattle.ppp_lcp.specs.Taking.{ours_of, asks, after_nak, after_reject}
 use Rattle.ppp_lcp.proofs.OursLemmas.{nak_back, reject_back, our_nak_back, asks_back}
 use Rattle.ppp_lcp.proofs.SessionLemmas.{step_stands, quiet_stands, left_at, step_call, one_loop}
@@ -110,7 +109,7 @@ heard_stands words past now p Acked l s e =
     (same_count (is_open_in l.wish past) l.unanswered _ (ap (λ (x : Lcp). x.unanswered) s.session))
 heard_stands words past now p (Named items) l s e =
     let ours : after_nak l.wish l.ours items ≡ ours_of l.wish words (changes_heard [] (Named items) ++ changes_in true past) =
-        ap (λ (x : Lcp). after_nak l.wish x.ours items) s.session ∙ nak_back l.wish words (changes_in true past) items in
+    ap (λ (x : Lcp). after_nak l.wish x.ours items) s.session ∙ nak_back l.wish words (changes_in true past) items in
     heard_step words past now p Rcn (with_packet (with_nak l items) Rcn p None now) l (after_nak l.wish l.ours items) l.loops l.unanswered (Named items) s e refl
     (ap (λ (x : Lcp). by_packet x.core.restart_ms Rcn (asks l.wish (after_nak l.wish l.ours items)) now p (limit_of x) None) s.session
     ∙ ap (λ (o : Ours). by_packet (session_after l.wish words past).core.restart_ms Rcn (asks l.wish o) now p (limit_of (session_after l.wish words past)) None) ours
@@ -119,7 +118,7 @@ heard_stands words past now p (Named items) l s e =
     (same_count (is_open_in l.wish past) l.unanswered _ (ap (λ (x : Lcp). x.unanswered) s.session))
 heard_stands words past now p (Rejected items) l s e =
     let ours : after_reject l.ours items ≡ ours_of l.wish words (changes_heard [] (Rejected items) ++ changes_in true past) =
-        ap (λ (x : Lcp). after_reject x.ours items) s.session ∙ reject_back l.wish words (changes_in true past) items in
+    ap (λ (x : Lcp). after_reject x.ours items) s.session ∙ reject_back l.wish words (changes_in true past) items in
     heard_step words past now p Rcn (with_packet (with_reject l items) Rcn p None now) l (after_reject l.ours items) l.loops l.unanswered (Rejected items) s e refl
     (ap (λ (x : Lcp). by_packet x.core.restart_ms Rcn (asks l.wish (after_reject l.ours items)) now p (limit_of x) None) s.session
     ∙ ap (λ (o : Ours). by_packet (session_after l.wish words past).core.restart_ms Rcn (asks l.wish o) now p (limit_of (session_after l.wish words past)) None) ours

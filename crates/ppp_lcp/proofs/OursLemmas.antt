@@ -1,19 +1,18 @@
 -- A Nak, a Reject and a Nak of our own leave what looking back over them gives.
-use Rattle.std.proofs.Common.{◌≡◌, ℕ, Bool, true, false, cond, Option, Some, None, List, [], ◌∷◌, ◌++◌, refl, ap, sym, ◌∙◌}
-use Rattle.std.specs.Prelude.{◌&&◌, ◌||◌, not, find}
-use Rattle.ppp_packet.specs.declared.packet.Packet.{Packet}
-use Rattle.ppp_packet.specs.OptionsOf.{Item, laid}
+use Rattle.std.proofs.Common.{◌≡◌, ℕ, Bool, true, false, cond, None, List, [], ◌∷◌, ◌++◌, refl, ap, sym, ◌∙◌}
+use Rattle.std.specs.Prelude.{◌&&◌, ◌||◌, not}
+use Rattle.ppp_packet.specs.OptionsOf.{Item}
 use Rattle.ppp_packet.proofs.Laying.{items_of-laid}
 use Rattle.ppp_control.specs.declared.judging.Verdict.{Verdict}
 use Rattle.ppp_control.specs.declared.judging.Verdict.TheVariants.{Ack, Nak, Reject}
-use Rattle.ppp_control.specs.Changes.{Change, by_nak, by_reject, by_our_nak, names_kind, is_left_out, named_in, items_onto}
+use Rattle.ppp_control.specs.Changes.{Change, by_nak, by_reject, names_kind, is_left_out, named_in, items_onto}
 use Rattle.ppp_control.specs.Rules.{our_nak}
 use Rattle.ppp_control.proofs.HeardLemmas.{nak_in}
 use Rattle.ppp_lcp.specs.declared.ours.Ours.{Ours}
 use Rattle.ppp_lcp.specs.declared.wish.LcpWish.{LcpWish}
 use Rattle.ppp_lcp.specs.Magic.{has_magic}
-use Rattle.ppp_lcp.specs.Ours.{our_mru, our_map, our_method, our_mrru, names_magic, generator_in, our_number, our_magic, word_of, skipped, Asked}
-use Rattle.ppp_lcp.specs.Taking.{ours_of, asks, nak_items, nak_item, redrawn, after_nak, after_reject}
+use Rattle.ppp_lcp.specs.Ours.{our_mru, our_map, our_method, our_mrru, names_magic, generator_in, our_number, word_of, skipped, Asked}
+use Rattle.ppp_lcp.specs.Taking.{ours_of, asks, nak_items, redrawn, after_nak, after_reject}
 
 -- what the items that were named give
 abbrev with_named : LcpWish → List Item → Ours → Ours

@@ -1,16 +1,13 @@
 -- What the other calls leave and tell: an event that comes with no packet, a tick, and a Protocol-Reject.
-use Rattle.std.proofs.Common.{◌≡◌, ℕ, ◌+◌, ◌*◌, Bool, true, false, cond, Option, Some, None, List, [], ◌∷◌, ◌++◌, refl, ap, sym, ◌∙◌, subst}
-use Rattle.std.specs.Prelude.{◌==◌, ◌&&◌, ◌||◌, not, min}
+use Rattle.std.proofs.Common.{◌≡◌, ℕ, ◌+◌, ◌*◌, Bool, true, false, cond, Some, None, List, [], ◌∷◌, refl, ap, sym, ◌∙◌, subst}
+use Rattle.std.specs.Prelude.{◌==◌, ◌&&◌, not, min}
 use Rattle.ppp_timer.specs.Due.{has_come}
-use Rattle.ppp_fsm.specs.declared.event.FsmEvent.{FsmEvent}
 use Rattle.ppp_fsm.specs.declared.event.FsmEvent.TheVariants.{Timeout}
-use Rattle.ppp_packet.specs.declared.packet.Packet.{Packet}
 use Rattle.ppp_packet.specs.OptionsOf.{Item}
 use Rattle.ppp_control.specs.declared.negotiation.Negotiation.{Negotiation}
 use Rattle.ppp_control.specs.Given.{alone}
 use Rattle.ppp_control.specs.OwnPackets.{packet}
-use Rattle.ppp_control.specs.Past.{restart_after}
-use Rattle.ppp_control.specs.Rules.{Call, Alone, by_itself, ticks, rejects, event_of, event_in, changes_in, happened_in}
+use Rattle.ppp_control.specs.Rules.{Call, Alone, by_itself, ticks, rejects, event_of, event_in, changes_in}
 use Rattle.ppp_control.specs.Start.{is_due}
 use Rattle.ppp_control.specs.Step.{next_of}
 use Rattle.ppp_control.proofs.RulesLemmas.{numbered_so}
@@ -20,7 +17,7 @@ use Rattle.ppp_lcp.specs.declared.wish.LcpWish.{LcpWish}
 use Rattle.ppp_lcp.specs.Magic.{cut_information}
 use Rattle.ppp_lcp.specs.Negotiating.{plain, event_left, event_told, is_failed, echo_body, echoed, echo_told, ticked, ticked_told, rejecting, rejecting_told}
 use Rattle.ppp_lcp.specs.Out.{no_event}
-use Rattle.ppp_lcp.specs.Session.{LcpCall, is_open_in, is_lost, mru_in, next_echo, echo_after, unanswered_in, in_a_row, own_requests, echo_in, rejection_in, rules, session_after, StandsFor, called, lost_at, finds_lost, Tells}
+use Rattle.ppp_lcp.specs.Session.{LcpCall, is_open_in, is_lost, mru_in, next_echo, echo_after, unanswered_in, in_a_row, own_requests, echo_in, rejection_in, rules, StandsFor, called, lost_at, Tells}
 use Rattle.ppp_lcp.proofs.OursLemmas.{asks_back}
 use Rattle.ppp_lcp.proofs.SessionLemmas.{same_lcp, one_loop, step_stands, quiet_stands, closed_echo, stays, not_entered}
 
@@ -72,7 +69,7 @@ echo_stands words past now l s due failed none =
     let n : ℕ = unanswered_in wish words past in
     let in_opened : was ≡ true = is_due_open was wish now past refl (ap (λ (x : Lcp). has_come now x.echo_at) (sym s.session) ∙ due) in
     let sent : echo_in wish words past now ≡ packet 9 l.core.next_id (echo_body l) ∷ [] =
-        echo_aside words past now l s ∙ ap (λ b. cond b (cond (is_failed l) [] (packet 9 l.core.next_id (echo_body l) ∷ [])) []) due ∙ ap (λ b. cond b [] (packet 9 l.core.next_id (echo_body l) ∷ [])) failed in
+    echo_aside words past now l s ∙ ap (λ b. cond b (cond (is_failed l) [] (packet 9 l.core.next_id (echo_body l) ∷ [])) []) due ∙ ap (λ b. cond b [] (packet 9 l.core.next_id (echo_body l) ∷ [])) failed in
     let m = numbered_so (rules wish words) past l.core now ticks true (echo_body l) s.negotiates none sent in
     record {
       negotiates = record { state = m.state; acked = m.acked; lawful = m.lawful };

@@ -1,6 +1,6 @@
 -- The MRU that is told as agreed is 128 to 1500, because no smaller one is acknowledged.
-use Rattle.std.proofs.Common.{◌≡◌, ℕ, ◌≤◌, Bool, true, false, cond, Option, Some, None, List, [], ◌∷◌, refl, ap, sym, ◌∙◌, subst, arith}
-use Rattle.std.specs.Prelude.{◌==◌, ◌&&◌, nat_le, min, length, filter, option_map}
+use Rattle.std.proofs.Common.{◌≡◌, ℕ, Bool, true, false, cond, Option, Some, None, List, [], ◌∷◌, refl, ap, sym, ◌∙◌, subst, arith}
+use Rattle.std.specs.Prelude.{◌==◌, nat_le, min, length, option_map}
 use Rattle.std.specs.Int.{to_be_bytes, w32}
 use Rattle.std.proofs.lemmas.Bool.{leb-true}
 use Rattle.ppp_packet.specs.declared.packet.Packet.{Packet}
@@ -10,7 +10,7 @@ use Rattle.ppp_control.specs.Answers.{Judgement, acks, names, rejects, is_reject
 use Rattle.ppp_control.specs.Changes.{last_from, last_body}
 use Rattle.ppp_control.specs.OwnPackets.{packet}
 use Rattle.ppp_control.specs.Past.{Agreement, next_id_after, options_in, last_acked, last_of, sent_in}
-use Rattle.ppp_control.specs.Rules.{Rules, Call, by_itself, ticks, hears, rejects as Rejecting, Called, aside, happened_in}
+use Rattle.ppp_control.specs.Rules.{Call, by_itself, ticks, hears, rejects as Rejecting, aside, happened_in}
 use Rattle.ppp_control.proofs.AckSentLemmas.{AllCarry, clash, no_ack, ack_fits}
 use Rattle.ppp_lcp.specs.declared.wish.LcpWish.{LcpWish}
 use Rattle.ppp_lcp.specs.declared.lcp.Lcp.{Lcp}
@@ -90,5 +90,5 @@ in_range false ours theirs h = tt
 pub agreed_range : (wish : LcpWish) (words : ℕ) (l : Lcp) (past : List LcpCall) (told : Option Agreed) → told ≡ agreed_after wish past → StandsFor wish words l past → IsInRange told
 agreed_range wish words l past told e s =
     let fits : Fits (options_in (last_of 2 (sent_in (happened_in past)))) =
-        ack_fits (rules wish words) Fits (λ before a items r n. fits_from wish _ _ _ items None r n refl) refl (quiet wish words) past s.negotiates.lawful in
+    ack_fits (rules wish words) Fits (λ before a items r n. fits_from wish _ _ _ items None r n refl) refl (quiet wish words) past s.negotiates.lawful in
     subst IsInRange (sym e) (in_range (is_open_in wish past) (options_in (last_acked (happened_in past))) _ fits)

@@ -1,9 +1,8 @@
 -- A call leaves what looking back over it gives, where the negotiation does.
-use Rattle.std.proofs.Common.{◌≡◌, ℕ, ◌+◌, ◌*◌, Bool, true, false, cond, Option, Some, None, List, [], ◌∷◌, ◌++◌, refl, ap, sym, ◌∙◌, arith}
+use Rattle.std.proofs.Common.{◌≡◌, ℕ, ◌+◌, Bool, true, false, cond, Option, Some, None, List, [], ◌∷◌, ◌++◌, refl, ap, sym, ◌∙◌, arith}
 use Rattle.std.specs.Prelude.{◌==◌, ◌&&◌, ◌||◌, not, min}
 use Rattle.ppp_fsm.specs.declared.event.FsmEvent.{FsmEvent}
 use Rattle.ppp_fsm.specs.Fsm.{acts_of}
-use Rattle.ppp_packet.specs.declared.packet.Packet.{Packet}
 use Rattle.ppp_control.specs.declared.negotiation.Negotiation.{Negotiation}
 use Rattle.ppp_control.specs.Given.{Given}
 use Rattle.ppp_control.specs.Step.{stepped, step_sends}
@@ -15,7 +14,7 @@ use Rattle.ppp_lcp.specs.declared.ours.Ours.{Ours}
 use Rattle.ppp_lcp.specs.declared.wish.LcpWish.{LcpWish}
 use Rattle.ppp_lcp.specs.Negotiating.{settled}
 use Rattle.ppp_lcp.specs.Taking.{ours_of}
-use Rattle.ppp_lcp.specs.Session.{LcpCall, is_open_in, own_at, own_requests, in_a_row, next_echo, sends_echo, echo_after, is_reply_at, unanswered_in, rules, session_after, StandsFor}
+use Rattle.ppp_lcp.specs.Session.{LcpCall, is_open_in, own_at, own_requests, in_a_row, next_echo, sends_echo, echo_after, is_reply_at, unanswered_in, rules, StandsFor}
 
 -- sessions with the same parts are the same
 pub same_lcp : (a b : Lcp) → a.wish ≡ b.wish → a.ours ≡ b.ours → a.core ≡ b.core → a.loops ≡ b.loops → a.echo_at ≡ b.echo_at → a.unanswered ≡ b.unanswered → a ≡ b

@@ -1,8 +1,7 @@
 -- LCP's steps: what a call of the code leaves, and what it tells.
 use Rattle.std.specs.Int.{to_be_bytes, w32}
-use Rattle.std.specs.Prelude.{is_some, option_map, min, not, ℕ, ◌+◌, ◌==◌, ◌&&◌, nat_le, Bool, true, false, if◌then◌else◌, Option, Some, None, List, [], ◌∷◌, length}
+use Rattle.std.specs.Prelude.{min, not, ℕ, ◌+◌, ◌==◌, ◌&&◌, nat_le, Bool, if◌then◌else◌, Option, Some, None, List, [], ◌∷◌, length}
 use Rattle.std.specs.List.{list_any}
-use Rattle.ppp_base.specs.declared.mrru.TheConstants.{DEFAULT_MRU}
 use Rattle.ppp_timer.specs.Due.{has_come}
 use Rattle.ppp_base.specs.declared.code.TheConstants.{ECHO_REQUEST, PROTOCOL_REJECT}
 use Rattle.ppp_fsm.specs.declared.event.FsmEvent.{FsmEvent}
@@ -10,9 +9,7 @@ use Rattle.ppp_fsm.specs.declared.event.FsmEvent.TheVariants.{Timeout, Rca, Rcn}
 use Rattle.ppp_fsm.specs.declared.acts.Act.{Act}
 use Rattle.ppp_fsm.specs.Fsm.{acts_of}
 use Rattle.ppp_packet.specs.declared.packet.Packet.{Packet}
-use Rattle.ppp_packet.specs.declared.agreed.Agreed.{Agreed}
 use Rattle.ppp_packet.specs.OptionsOf.{Item}
-use Rattle.ppp_control.specs.declared.judging.Verdict.{Verdict}
 use Rattle.ppp_control.specs.declared.classes.HeardAs.{HeardAs}
 use Rattle.ppp_control.specs.declared.classes.HeardAs.TheVariants.{Request as Asks, Ack as Acked, Nak, Reject, Event, Discarded}
 use Rattle.ppp_control.specs.Changes.{names_kind}
@@ -24,16 +21,13 @@ use Rattle.ppp_control.specs.Step.{stepped, step_sends, next_of}
 use Rattle.ppp_control.specs.Verdict.{event_on}
 use Rattle.ppp_lcp.specs.declared.lcp.Lcp.{Lcp}
 use Rattle.ppp_lcp.specs.declared.out.LcpOut.{LcpOut}
-use Rattle.ppp_lcp.specs.declared.wish.LcpWish.{LcpWish}
-use Rattle.ppp_lcp.specs.Last.{agreed_by}
 use Rattle.ppp_lcp.specs.Object.{magic_now, limit_of, verdict_on, agreed_in}
 use Rattle.ppp_lcp.specs.Magic.{has_magic, cut_information}
-use Rattle.ppp_lcp.specs.Ours.{skipped, word_of}
+use Rattle.ppp_lcp.specs.Ours.{skipped}
 use Rattle.ppp_lcp.specs.Out.{out_of, no_event}
-use Rattle.ppp_lcp.specs.Session.{in_force, is_loop, is_reply, next_echo, is_lost, mru_in, reply_to, is_needed}
+use Rattle.ppp_lcp.specs.Session.{is_loop, is_reply, next_echo, is_lost, mru_in, reply_to, is_needed}
 use Rattle.ppp_lcp.specs.Table.{number2}
 use Rattle.ppp_lcp.specs.Taking.{asks, after_nak, after_reject}
-use Rattle.ppp_lcp.specs.Verdict.{verdict_where}
 
 abbrev pub is_answer : Lcp → Packet → Bool
 is_answer l p = l.core.fsm.state == 9 && is_reply (magic_now l) p

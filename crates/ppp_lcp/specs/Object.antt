@@ -1,5 +1,5 @@
 -- What a reader sees of LCP as it stands.
-use Rattle.std.specs.Prelude.{ℕ, ◌==◌, ◌&&◌, not, Bool, if◌then◌else◌, Option, Some, None, is_some, option_map, List}
+use Rattle.std.specs.Prelude.{ℕ, ◌==◌, ◌&&◌, not, if◌then◌else◌, Option, is_some, option_map, List}
 use Rattle.ppp_base.specs.declared.mrru.TheConstants.{DEFAULT_MRU}
 use Rattle.ppp_packet.specs.declared.agreed.Agreed.{Agreed}
 use Rattle.ppp_packet.specs.OptionsOf.{Item}

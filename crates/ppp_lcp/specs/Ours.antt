@@ -1,9 +1,9 @@
 -- What we ask for, as a function of the wish, the generator's first state and what changed it in the session, the newest first
 -- (RFC 1661, sections 5.3, 5.4 and 6; RFC 1662, section 7.1; RFC 1990, section 5.1).
-use Rattle.std.specs.Prelude.{ℕ, ◌==◌, max, nat_le, not, ◌&&◌, ◌||◌, bit_or, Bool, true, false, if◌then◌else◌, Option, Some, None, List, [], ◌∷◌, ◌++◌, length}
+use Rattle.std.specs.Prelude.{ℕ, ◌==◌, max, nat_le, not, ◌&&◌, ◌||◌, bit_or, Bool, false, if◌then◌else◌, Option, Some, None, List, [], ◌∷◌, ◌++◌, length}
 use Rattle.std.specs.Int.{to_be_bytes, w16, w32}
 use Rattle.ppp_base.specs.declared.mrru.TheConstants.{DEFAULT_MRU, LEAST_MRRU, LEAST_MRU}
-use Rattle.ppp_packet.specs.OptionsOf.{Item, item}
+use Rattle.ppp_packet.specs.OptionsOf.{Item}
 use Rattle.ppp_base.specs.RandomWords.{next_word, next_state}
 use Rattle.ppp_base.specs.Disc.{Discriminator}
 use Rattle.ppp_control.specs.Changes.{Change, by_nak, by_reject, by_our_nak, is_left_out, named_in, asked_if}

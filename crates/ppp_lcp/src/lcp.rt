@@ -344,9 +344,7 @@ impl Lcp {
         let asked = self.ours.asks(&self.wish);
         let limit = self.limit();
         let was_open = self.core.is_open();
-        let step = self
-            .core
-            .heard(event, packet, limit, reply, &asked, now);
+        let step = self.core.heard(event, packet, limit, reply, &asked, now);
         self.settle(was_open, now);
         LcpOut::of(step, self.loops)
     }
@@ -374,9 +372,7 @@ impl Lcp {
         let asked = self.ours.asks(&self.wish);
         let verdict = self.verdict(theirs);
         let was_open = self.core.is_open();
-        let step = self
-            .core
-            .answer(packet.id, theirs, &verdict, &asked, now);
+        let step = self.core.answer(packet.id, theirs, &verdict, &asked, now);
         self.settle(was_open, now);
         if names_magic(&verdict) && sends_verdict(&step.acts) {
             self.ours.skip();

@@ -1,5 +1,5 @@
 -- Looking back, and by the state.
-use Rattle.std.proofs.Common.{◌≡◌, Bool, true, false, cond, Option, Some, None, refl, ap, ◌∙◌}
+use Rattle.std.proofs.Common.{◌≡◌, Bool, true, false, cond, Some, None, refl, ap, ◌∙◌}
 use Rattle.std.specs.Prelude.{◌==◌, is_some, option_map}
 use Rattle.ppp_control.specs.Past.{Agreement}
 use Rattle.ppp_lcp.specs.Last.{agreed_by}

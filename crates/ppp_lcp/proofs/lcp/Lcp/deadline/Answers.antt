@@ -1,5 +1,5 @@
 -- Looking back.
-use Rattle.std.proofs.Common.{◌≡◌, cond, ap, ◌∙◌}
+use Rattle.std.proofs.Common.{cond, ap, ◌∙◌}
 use Rattle.std.specs.Prelude.{◌==◌}
 use Rattle.ppp_lcp.specs.declared.lcp.Lcp.{Lcp}
 use Rattle.ppp_lcp.proofs.lcp.Lcp.deadline.Goals as goal

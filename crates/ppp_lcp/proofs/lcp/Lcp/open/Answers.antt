@@ -1,5 +1,4 @@
 -- Looking back over the event, and what it leaves.
-use Rattle.std.proofs.Common.{ap, ◌∙◌}
 use Rattle.ppp_fsm.specs.declared.event.FsmEvent.TheVariants.{Open}
 use Rattle.ppp_control.specs.Rules.{opens}
 use Rattle.ppp_lcp.proofs.EventLemmas.{left_fsm, opens_at}
