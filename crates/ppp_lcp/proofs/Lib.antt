@@ -5,3 +5,4 @@ pub mod EventLemmas
 pub mod HeardLemmas
 pub mod QuietLemmas
 pub mod RangeLemmas
+pub mod TimerLemmas
