@@ -200,6 +200,21 @@ impl Negotiation {
         self.step(event, &parts)
     }
 
+    /// A tick: a timeout, where the restart timer is due.
+    pub fn tick(&mut self, asked: &OptionList, now: u64) -> StepOut
+        requires { now ≤ 2 ^ 56 }
+        ensures new { self.new ≡ (if is_due self.old now then stepped (alone self.old.restart_ms Timeout asked.now now) Timeout self.old else self.old) }
+        ensures event { result.event ≡ (if is_due self.old now then Some Timeout else None) }
+        ensures acts { result.acts ≡ (if is_due self.old now then acts_of self.old.fsm Timeout else []) }
+        ensures packets { result.packets ≡ (if is_due self.old now then step_sends (alone self.old.restart_ms Timeout asked.now now) Timeout self.old else []) }
+    {
+        if self.is_due(now) {
+            self.event(FsmEvent::Timeout, asked, now)
+        } else {
+            StepOut::none()
+        }
+    }
+
     /// An event that comes with a packet other than a request. A Code-Reject of it has at most `limit` octets, and 1,508; `reply` are
     /// the data of the Echo-Reply to it, where it has one.
     pub fn heard(

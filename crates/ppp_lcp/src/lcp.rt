@@ -257,11 +257,14 @@ impl Lcp {
         ensures new { self.new ≡ ticked self.old now }
         ensures told { result ≡ ticked_told self.old now }
     {
-        if self.core.is_due(now) {
-            self.event(FsmEvent::Timeout, now)
-        } else {
-            self.echo(now)
+        let asked = self.ours.asks(&self.wish);
+        let was_open = self.core.is_open();
+        let step = self.core.tick(&asked, now);
+        if step.event.is_none() {
+            return self.echo(now);
         }
+        self.settle(was_open, now);
+        LcpOut::of(step, self.loops)
     }
 
     // A packet, by its class.
