@@ -50,14 +50,14 @@ last_fits fits (p ∷ packets) log h k = last_fits fits packets (p ∷ log) h.1 
     one false e = k
 
 -- by the table an Ack is sent at RcrGood alone
-abbrev is_good : FsmEvent → Bool
+abbrev pub is_good : FsmEvent → Bool
 is_good RcrGood = true
 is_good _ = false
 
 abbrev acks_good : FsmEvent → ℕ → Entry → Bool
 acks_good event state entry = not (has Sca (acts_in entry)) || is_good event
 
-good_event : (a : Automaton) (event : FsmEvent) → has Sca (acts_of a event) ≡ true → is_good event ≡ true
+pub good_event : (a : Automaton) (event : FsmEvent) → has Sca (acts_of a event) ≡ true → is_good event ≡ true
 unfolding acts_of
 good_event a event h = second _ _ (each_entry acks_good refl (λ event state past. refl) a event) h
   where

@@ -10,3 +10,4 @@ pub mod SentLemmas
 pub mod RulesLemmas
 pub mod AgreementLemmas
 pub mod AckSentLemmas
+pub mod AnsweringLemmas

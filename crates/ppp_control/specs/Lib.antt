@@ -9,6 +9,7 @@ pub mod Given
 pub mod OwnPackets
 pub mod Sent
 pub mod Rules
+pub mod Answering
 pub mod Start
 pub mod Step
 pub use Rattle.ppp_packet.specs.OptionsOf

@@ -2,13 +2,15 @@ ghost use Rattle.std.specs.Prelude.{◌≡◌, if◌then◌else◌, ℕ, Bool, [
 ghost use Rattle.ppp_fsm.specs.declared.event.FsmEvent.{FsmEvent};
 ghost use Rattle.ppp_fsm.specs.declared.fsm.Limits.{Limits};
 ghost use Rattle.ppp_fsm.specs.Fsm.{acts_of};
+ghost use Rattle.ppp_packet.specs.declared.packet.Packet.{Packet};
 ghost use Rattle.ppp_control.specs.declared.negotiation.Negotiation.{Negotiation};
 ghost use Rattle.ppp_control.specs.Given.{Given};
 ghost use Rattle.ppp_control.specs.OwnPackets.{packet};
 ghost use Rattle.ppp_control.specs.Start.{started, agreement};
 ghost use Rattle.ppp_control.specs.Step.{stepped, step_sends, next_of};
 ghost use Rattle.ppp_control.specs.Past.{agreement_after};
-ghost use Rattle.ppp_control.specs.Rules.{happened_in, Rules, Call, Called, Negotiates, aside, event_in, comes_with};
+ghost use Rattle.ppp_control.specs.Rules.{happened_in, Rules, Call, hears, Called, IsLawful, Negotiates, aside, event_in, comes_with};
+ghost use Rattle.ppp_control.specs.Answering.{AllAnswer};
 
 /// A negotiation begins with no calls.
 pub fn nothing_has_happened<A>()
@@ -33,4 +35,9 @@ pub fn calls_without_event_look_back<A>()
 /// What both ends acknowledged is what the negotiation has.
 pub fn both_acknowledged<A>()
     ensures { (r : Rules A) (past : List (Called A)) (n : Negotiation) → Negotiates r n past → agreement n ≡ agreement_after r.limits (happened_in past) }
+{}
+
+/// Of the packets that a call sends, each answer has the identifier of the packet that was heard, an Ack its data too, and a Code-Reject its octets.
+pub fn answers_are_of_what_was_heard<A>()
+    ensures { (r : Rules A) (past : List (Called A)) (c : Called A) (p : Packet) (a : A) → c.call ≡ hears p a → IsLawful r c past → AllAnswer p c.happened.packets }
 {}
