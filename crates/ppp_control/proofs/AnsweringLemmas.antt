@@ -1,6 +1,6 @@
 -- The packets that a call sends answer the packet that it heard.
 use Rattle.std.proofs.Common.{◌≡◌, ℕ, Bool, true, false, cond, Option, Some, None, List, [], ◌∷◌, ◌++◌, refl, ap, sym, ◌∙◌, subst}
-use Rattle.std.specs.Prelude.{◌==◌, ◌&&◌, ◌-◌, min, nat_lt, nat_le, nat_eq, length, slice_index, is_some, option_map, option_to_list, take}
+use Rattle.std.specs.Prelude.{◌==◌, ◌&&◌, nat_lt, nat_le, nat_eq, length, slice_index, is_some, option_map, option_to_list, take}
 use Rattle.std.specs.Cmp.Lexicographic.{pointwise}
 use Rattle.std.specs.Cmp.Lexicographic.{same_text}
 use Rattle.ppp_fsm.specs.declared.event.FsmEvent.{FsmEvent}

@@ -2,7 +2,7 @@
 //! requests and its restart timer, which event a packet is, and in which order a request's options are answered.
 //!
 //! `Negotiation::class` says which event a packet is, given our last request. `verdict_by` answers a request by a `Judge`, who
-//! says of each option whether it is acknowledged, named or rejected. `Negotiation::event`, `heard` and `answer` carry out the acts of one
+//! says of each option whether it is acknowledged, named or rejected. `Negotiation::event`, `tick`, `heard` and `answer` carry out the acts of one
 //! event: alone, with a packet, or with a request.
 //!
 //! What each call is, does and sends stands in `specs/Rules.antt`, for any protocol: a function of the calls before it. What a negotiation has

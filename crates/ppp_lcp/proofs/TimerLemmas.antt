@@ -4,7 +4,6 @@ use Rattle.std.proofs.lemmas.Bool.{eqb-true}
 use Rattle.std.specs.Prelude.{◌==◌, ◌*◌, nat_lt, min}
 use Rattle.std.specs.Int.{to_be_bytes, w32}
 use Rattle.ppp_timer.specs.Due.{has_come}
-use Rattle.ppp_fsm.specs.declared.event.FsmEvent.{FsmEvent}
 use Rattle.ppp_fsm.specs.declared.event.FsmEvent.TheVariants.{Timeout}
 use Rattle.ppp_packet.specs.declared.packet.Packet.{Packet}
 use Rattle.ppp_control.specs.OwnPackets.{packet}

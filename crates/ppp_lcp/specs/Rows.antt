@@ -12,7 +12,7 @@ use Rattle.ppp_lcp.specs.declared.wish.LcpWish.{LcpWish}
 use Rattle.ppp_lcp.specs.Session.{LcpCall}
 use Rattle.ppp_lcp.specs.Verdict.{verdict_to}
 
--- the default options of a link, and a generator's state from which the next words are 11223344 and 3d6f6ad4 in hexadecimal
+-- the default options of a link
 abbrev pub usual : Limits → LcpWish
 usual limits = record {
   mru = 1500;
@@ -35,6 +35,7 @@ usual limits = record {
   max_failure = 10;
 }
 
+-- a generator's state from which the next word is 11223344 in hexadecimal
 abbrev pub first_words : ℕ
 first_words = 16761096584570294293
 
