@@ -2,7 +2,8 @@
 use Rattle.std.proofs.Common.{nat_eq, ◌≡◌, ℕ, ◌+◌, ◌-◌, ◌<◌, ◌≤◌, ◌++◌, suc, max, nat_lt, cond, Bool, true, false, List, [], ◌∷◌, length, zero, option_map, Option, None, Some, refl, sym, ap, subst, ◌∙◌, arith, ◌⊎◌, inl, inr, append_assoc, length-append}
 use Rattle.std.proofs.lemmas.Bool.{cases_lt}
 use Rattle.std.proofs.lemmas.Bool.Decides.{nat_tests}
-use Rattle.ppp_mp.specs.Whole.{joined, piece_at}
+use Rattle.ppp_mp.specs.Header.{long_space}
+use Rattle.ppp_mp.specs.Pieces.{joined, piece_at}
 use Rattle.ppp_mp.specs.Delivered.{Gathering, Rule, Rules, AtRest, loses, completes, ruled}
 use Rattle.ppp_mp.specs.Places.{place, AreMissing, Scanned, joined_there, tally, waits, ends, rule_at, goes_on_there}
 use Rattle.ppp_mp.specs.Moves.{IsMoved, HasCompleted, HasSettled, Holds}
@@ -19,8 +20,8 @@ use Rattle.ppp_mp.proofs.PlaceLemmas.{tally-left, tally-one, tally-rest, tally-p
 pub record Settling (first : GatherFacts) (packets0 : List (List ℕ)) (bound0 : ℕ) (g : GatherFacts) (packets : List (List ℕ)) (bound : ℕ) : Type 0 where
   pub mrru : g.mrru ≡ first.mrru
   pub room : length packets + tally ends g.places 128 ≤ length packets0 + tally ends first.places 128
-  pub goes : (before : List (List ℕ)) (s : Gathering) (below : ℕ) → Holds before first packets0 s → bound0 ≡ below - s.least
-      → (count : ℕ) × (mid : Gathering) × Rules first.mrru below s count mid × Holds before g packets mid × (bound ≡ below - mid.least)
+  pub goes : (before : List (List ℕ)) (s : Gathering) (below : ℕ) → Holds long_space before first packets0 s → bound0 ≡ below - s.least
+      → (count : ℕ) × (mid : Gathering) × Rules first.mrru below s count mid × Holds long_space before g packets mid × (bound ≡ below - mid.least)
 
 pub settling_begins : (g : GatherFacts) (packets : List (List ℕ)) (bound : ℕ) → Settling g packets bound g packets bound
 settling_begins g packets bound = record { mrru = refl; room = omega arith; goes = λ before s below holds is. (0, s, refl, holds, is) }
@@ -32,7 +33,7 @@ lost-counts g g' mid count before now =
     now ∙ ap more before ∙ ap set (stopped-more mid.lost count)
 
 pub settling_loses : (first : GatherFacts) (packets0 : List (List ℕ)) (bound0 : ℕ) (g : GatherFacts) (packets : List (List ℕ)) (bound : ℕ) (g' : GatherFacts) (count bound' : ℕ)
-    → Settling first packets0 bound0 g packets bound → Scanned g.places bound (Loses count) → ((i : ℕ) → 128 ≤ i → place g.places i ≡ None) → IsMoved g g' count
+    → Settling first packets0 bound0 g packets bound → Scanned g.places bound (Loses count) → ((i : ℕ) → 128 ≤ i → place g.places i ≡ None) → IsMoved long_space g g' count
     → g'.counts ≡ record g.counts { lost = stopped (g.counts.lost + count) } → bound' ≡ bound - count
     → Settling first packets0 bound0 g' packets bound'
 settling_loses first packets0 bound0 g packets bound g' count bound' so_far scanned past moved counts less = record {
@@ -42,7 +43,7 @@ settling_loses first packets0 bound0 g packets bound g' count bound' so_far scan
       let t = so_far.goes before s below holds is in
       let mid : Gathering = t.1 in
       let bound_is : bound ≡ below - mid.least = t.4 in
-      let keeps : KeepsNow g mid = t.3.keeps in
+      let keeps : KeepsNow long_space g mid = t.3.keeps in
       let given : mid.given ≡ before ++ packets = t.3.given in
       let rule : Rule g.mrru below mid (loses mid count) = scanned_rule g.mrru below g mid (loses mid count) bound (Loses count) keeps bound_is scanned refl in
       let P = λ (m : ℕ). Rule m below mid (loses mid count) in (
@@ -85,7 +86,7 @@ misses_rules mrru below s mid before (suc k) rules none le =
     (suc t.0, (loses mid k, t.1, misses_one mrru below mid k (none k (omega arith)) (omega arith)))
 
 pub settling_misses : (first : GatherFacts) (packets0 : List (List ℕ)) (bound0 : ℕ) (g : GatherFacts) (packets : List (List ℕ)) (bound : ℕ) (g' : GatherFacts) (count bound' : ℕ)
-    → Settling first packets0 bound0 g packets bound → AreMissing g.places bound count → ((i : ℕ) → 128 ≤ i → place g.places i ≡ None) → IsMoved g g' count
+    → Settling first packets0 bound0 g packets bound → AreMissing g.places bound count → ((i : ℕ) → 128 ≤ i → place g.places i ≡ None) → IsMoved long_space g g' count
     → g'.counts ≡ record g.counts { lost = stopped (g.counts.lost + count) } → bound' ≡ bound - count
     → Settling first packets0 bound0 g' packets bound'
 settling_misses first packets0 bound0 g packets bound g' count bound' so_far missing past moved counts less = record {
@@ -95,7 +96,7 @@ settling_misses first packets0 bound0 g packets bound g' count bound' so_far mis
       let t = so_far.goes before s below holds is in
       let mid : Gathering = t.1 in
       let bound_is : bound ≡ below - mid.least = t.4 in
-      let keeps : KeepsNow g mid = t.3.keeps in
+      let keeps : KeepsNow long_space g mid = t.3.keeps in
       let given : mid.given ≡ before ++ packets = t.3.given in
       let some : 0 < count = missing.some in
       let most : count ≤ bound = missing.below in
@@ -111,7 +112,7 @@ settling_misses first packets0 bound0 g packets bound g' count bound' so_far mis
       );
 }
 
-pub misses-fall : (g g' : GatherFacts) (bound bound' count : ℕ) → AreMissing g.places bound count → ((i : ℕ) → 128 ≤ i → place g.places i ≡ None) → IsMoved g g' count → bound' ≡ bound - count
+pub misses-fall : (g g' : GatherFacts) (bound bound' count : ℕ) → AreMissing g.places bound count → ((i : ℕ) → 128 ≤ i → place g.places i ≡ None) → IsMoved long_space g g' count → bound' ≡ bound - count
     → bound' + tally waits g'.places 128 < bound + tally waits g.places 128
 misses-fall g g' bound bound' count missing past moved less =
     let left = tally-left waits g.places g'.places count refl moved.places past in
@@ -133,12 +134,12 @@ long-counts g g' mid count before now =
     now ∙ ap more before ∙ ap set (stopped-more mid.too_long 1)
 
 -- what a complete run leaves
-completes_holds : (before : List (List ℕ)) (g g' : GatherFacts) (packets packets' : List (List ℕ)) (mid : Gathering) (count : ℕ) → Holds before g packets mid → IsMoved g g' count → HasCompleted g g' count packets packets'
-    → Holds before g' packets' (completes g.mrru mid count) × ((completes g.mrru mid count).least ≡ mid.least + count)
+completes_holds : (before : List (List ℕ)) (g g' : GatherFacts) (packets packets' : List (List ℕ)) (mid : Gathering) (count : ℕ) → Holds long_space before g packets mid → IsMoved long_space g g' count → HasCompleted g g' count packets packets'
+    → Holds long_space before g' packets' (completes g.mrru mid count) × ((completes g.mrru mid count).least ≡ mid.least + count)
 completes_holds before g g' packets packets' mid count holds moved completed =
     let same : joined mid.kept mid.least count ≡ joined_there g.places count = joined-same g mid holds.keeps count in
     let same_length : length (joined mid.kept mid.least count) ≡ length (joined_there g.places count) = ap length same in
-    let Q : Gathering → Type 0 = λ s. Holds before g' packets' s × (s.least ≡ mid.least + count) in
+    let Q : Gathering → Type 0 = λ s. Holds long_space before g' packets' s × (s.least ≡ mid.least + count) in
     elim (cases_lt (g.mrru + 2) (length (joined_there g.places count))) [
       | inl long ↦
           let now = completed.long long in
@@ -213,7 +214,7 @@ first-waits g bound rule scanned is = elim (cases_lt 0 scanned.len) [
   | inr none ↦ let e : scanned.len ≡ 0 = omega arith in rw e at is
 ]
 
-pub loses-fall : (g g' : GatherFacts) (bound bound' count : ℕ) → Scanned g.places bound (Loses count) → ((i : ℕ) → 128 ≤ i → place g.places i ≡ None) → IsMoved g g' count → bound' ≡ bound - count
+pub loses-fall : (g g' : GatherFacts) (bound bound' count : ℕ) → Scanned g.places bound (Loses count) → ((i : ℕ) → 128 ≤ i → place g.places i ≡ None) → IsMoved long_space g g' count → bound' ≡ bound - count
     → bound' + tally waits g'.places 128 < bound + tally waits g.places 128
 loses-fall g g' bound bound' count scanned past moved less =
     let left = tally-left waits g.places g'.places count refl moved.places past in
@@ -226,7 +227,7 @@ ends-waits : (o : Option WaitingPiece) → ends o ≡ true → waits o ≡ true
 ends-waits None e = cc
 ends-waits (Some p) e = refl
 
-pub completes-fall : (g g' : GatherFacts) (bound bound' count : ℕ) → Scanned g.places bound (Completes count) → ((i : ℕ) → 128 ≤ i → place g.places i ≡ None) → IsMoved g g' count → bound' ≡ bound - count
+pub completes-fall : (g g' : GatherFacts) (bound bound' count : ℕ) → Scanned g.places bound (Completes count) → ((i : ℕ) → 128 ≤ i → place g.places i ≡ None) → IsMoved long_space g g' count → bound' ≡ bound - count
     → bound' + tally waits g'.places 128 < bound + tally waits g.places 128
 completes-fall g g' bound bound' count scanned past moved less =
     let left = tally-left waits g.places g'.places count refl moved.places past in
@@ -242,7 +243,7 @@ packets-grow g g' count packets packets' completed =
     ]
 
 pub settling_completes : (first : GatherFacts) (packets0 : List (List ℕ)) (bound0 : ℕ) (g : GatherFacts) (packets : List (List ℕ)) (bound : ℕ) (g' : GatherFacts) (packets' : List (List ℕ)) (count bound' : ℕ)
-    → Settling first packets0 bound0 g packets bound → Scanned g.places bound (Completes count) → ((i : ℕ) → 128 ≤ i → place g.places i ≡ None) → IsMoved g g' count
+    → Settling first packets0 bound0 g packets bound → Scanned g.places bound (Completes count) → ((i : ℕ) → 128 ≤ i → place g.places i ≡ None) → IsMoved long_space g g' count
     → HasCompleted g g' count packets packets' → bound' ≡ bound - count
     → Settling first packets0 bound0 g' packets' bound'
 settling_completes first packets0 bound0 g packets bound g' packets' count bound' so_far scanned past moved completed less = record {
@@ -256,7 +257,7 @@ settling_completes first packets0 bound0 g packets bound g' packets' count bound
       let t = so_far.goes before s below holds is in
       let mid : Gathering = t.1 in
       let bound_is : bound ≡ below - mid.least = t.4 in
-      let keeps : KeepsNow g mid = t.3.keeps in
+      let keeps : KeepsNow long_space g mid = t.3.keeps in
       let rule : Rule g.mrru below mid (completes g.mrru mid count) = scanned_rule g.mrru below g mid (completes g.mrru mid count) bound (Completes count) keeps bound_is scanned refl in
       let after = completes_holds before g g' packets packets' mid count t.3 moved completed in
       let least : (completes g.mrru mid count).least ≡ mid.least + count = after.1 in
@@ -265,7 +266,7 @@ settling_completes first packets0 bound0 g packets bound g' packets' count bound
 }
 
 pub settling_ends : (first : GatherFacts) (packets0 : List (List ℕ)) (bound0 : ℕ) (g : GatherFacts) (packets : List (List ℕ)) (bound : ℕ)
-    → Settling first packets0 bound0 g packets bound → Scanned g.places bound Rests → HasSettled bound0 first g packets0 packets
+    → Settling first packets0 bound0 g packets bound → Scanned g.places bound Rests → HasSettled long_space bound0 first g packets0 packets
 settling_ends first packets0 bound0 g packets bound so_far scanned = λ before s below holds is.
     let t = so_far.goes before s below holds is in
     let P = λ (m : ℕ). AtRest m below t.1 in

@@ -1,7 +1,6 @@
 -- What the single steps of a gatherer do to what it keeps.
 use Rattle.std.specs.Prelude.{◌≡◌, ℕ, ◌+◌, ◌-◌, ◌%◌, ◌≤◌, ◌<◌, List, [], ◌∷◌, ◌++◌, map, length, option_map}
 use Rattle.ppp_mp.specs.Delivered.{Gathering, Fragment, Settles, TakesOf, mark}
-use Rattle.ppp_mp.specs.LongHeader.{long_space}
 use Rattle.ppp_mp.specs.Places.{place, joined_there}
 use Rattle.ppp_mp.specs.StandsFor.{KeepsNow, stopped}
 use Rattle.ppp_mp.specs.declared.places.WaitingPiece.{WaitingPiece}
@@ -9,15 +8,15 @@ use Rattle.ppp_mp.specs.declared.counts.PieceNow.{PieceNow}
 use Rattle.ppp_mp.specs.declared.facts.GatherFacts.{GatherFacts}
 
 -- So many numbers are settled.
-pub record IsMoved (old new : GatherFacts) (count : ℕ) : Type 0 where
+pub record IsMoved (space : ℕ) (old new : GatherFacts) (count : ℕ) : Type 0 where
   pub mrru : new.mrru ≡ old.mrru
-  pub base : new.base ≡ (old.base + count) % long_space
+  pub base : new.base ≡ (old.base + count) % space
   pub places : (i : ℕ) → place new.places i ≡ place old.places (i + count)
   pub overs : new.overs ≡ map (option_map (λ n. n - count)) old.overs
 
 -- A gatherer keeps a gathering, and these packets are the last that it has given.
-pub record Holds (before : List (List ℕ)) (g : GatherFacts) (packets : List (List ℕ)) (s : Gathering) : Type 0 where
-  pub keeps : KeepsNow g s
+pub record Holds (space : ℕ) (before : List (List ℕ)) (g : GatherFacts) (packets : List (List ℕ)) (s : Gathering) : Type 0 where
+  pub keeps : KeepsNow space g s
   pub given : s.given ≡ before ++ packets
 
 -- A waiting piece as it arrived.
@@ -25,21 +24,21 @@ abbrev pub arrived : (field : ℕ) → WaitingPiece → Fragment
 arrived field p = record { field = field; first = p.first; last = p.last; octets = p.octets }
 
 -- A member's piece has been taken, and these packets were given.
-abbrev pub HasTaken : (mrru : ℕ) (s : Gathering) (link : ℕ) → Fragment → PieceNow → GatherFacts → List (List ℕ) → Type 0
-HasTaken mrru s link fragment answer g packets =
-    (new : Gathering) × TakesOf long_space mrru s link fragment answer new × KeepsNow g new × (new.given ≡ s.given ++ packets)
+abbrev pub HasTaken : (space mrru : ℕ) (s : Gathering) (link : ℕ) → Fragment → PieceNow → GatherFacts → List (List ℕ) → Type 0
+HasTaken space mrru s link fragment answer g packets =
+    (new : Gathering) × TakesOf space mrru s link fragment answer new × KeepsNow space g new × (new.given ≡ s.given ++ packets)
 
 -- The rules are applied with M as it is.
-abbrev pub HasSettledNow : (old new : GatherFacts) (packets packets' : List (List ℕ)) → Type 0
-HasSettledNow old new packets packets' =
-    (before : List (List ℕ)) (s : Gathering) → Holds before old packets s
-    → (s' : Gathering) × Settles old.mrru (mark s) s s' × Holds before new packets' s'
+abbrev pub HasSettledNow : (space : ℕ) (old new : GatherFacts) (packets packets' : List (List ℕ)) → Type 0
+HasSettledNow space old new packets packets' =
+    (before : List (List ℕ)) (s : Gathering) → Holds space before old packets s
+    → (s' : Gathering) × Settles old.mrru (mark s) s s' × Holds space before new packets' s'
 
 -- The rules are applied until none does.
-abbrev pub HasSettled : (bound : ℕ) (old new : GatherFacts) (packets packets' : List (List ℕ)) → Type 0
-HasSettled bound old new packets packets' =
-    (before : List (List ℕ)) (s : Gathering) (below : ℕ) → Holds before old packets s → bound ≡ below - s.least
-    → (s' : Gathering) × Settles old.mrru below s s' × Holds before new packets' s'
+abbrev pub HasSettled : (space bound : ℕ) (old new : GatherFacts) (packets packets' : List (List ℕ)) → Type 0
+HasSettled space bound old new packets packets' =
+    (before : List (List ℕ)) (s : Gathering) (below : ℕ) → Holds space before old packets s → bound ≡ below - s.least
+    → (s' : Gathering) × Settles old.mrru below s s' × Holds space before new packets' s'
 
 -- So many pieces from the first place on are given as a packet, or counted as too long.
 pub record HasCompleted (old new : GatherFacts) (count : ℕ) (packets packets' : List (List ℕ)) : Type 0 where

@@ -1,11 +1,11 @@
 ghost use Rattle.ppp_base.specs.declared.mrru.TheConstants.{LEAST_MRRU, MOST_MRRU};
 ghost use Rattle.ppp_base.specs.declared.octets.TheConstants.{MOST_FRAME};
-ghost use Rattle.std.specs.Prelude.{◌≡◌, ◌≢◌, ℕ, ◌+◌, ◌*◌, ◌<◌, ◌≤◌, ◌↔◌, ◌⊎◌, List, [], length, IfOk, IsSome, IfSome};
+ghost use Rattle.std.specs.Prelude.{◌≡◌, ◌≢◌, ℕ, ◌+◌, ◌*◌, ◌<◌, ◌≤◌, ◌↔◌, ◌⊎◌, ◌-◌, List, [], length, true, false, replicate, slice_set, IfOk, IsSome, IfSome};
 ghost use Rattle.ppp_mp.specs.Delivered.{Entry, Joins, Leaves, Gathering, nothing};
-ghost use Rattle.ppp_mp.specs.LongHeader.{fragment_of, long_space};
+ghost use Rattle.ppp_mp.specs.Header.{fragment_of, long_octets, long_space};
 ghost use Rattle.ppp_mp.specs.Moves.{arrived};
-ghost use Rattle.ppp_mp.specs.Whole.{AreInOrder};
-ghost use Rattle.ppp_mp.specs.StandsFor.{StandsFor, Adds, AddsPiece, IsJoined, counted};
+ghost use Rattle.ppp_mp.specs.Pieces.{AreInOrder};
+ghost use Rattle.ppp_mp.specs.StandsFor.{StandsFor, Adds, AddsPiece, IsJoined, members_of, counted};
 
 use crate::counts::{GatherCounts, PieceNow};
 use crate::facts::GatherFacts;
@@ -41,8 +41,9 @@ impl Gather {
     /// is taken here.
     pub fn new(alloc: Global, mrru: u16) -> Result<Gather, NoMemory>
         requires { (LEAST_MRRU ≤ mrru) × (mrru ≤ MOST_MRRU) }
-        ensures stands { IfOk result (λ g. StandsFor g [] (nothing long_space)) }
+        ensures stands { IfOk result (λ g. StandsFor long_space g [] (nothing long_space)) }
         ensures mrru { IfOk result (λ g. g.mrru ≡ mrru) }
+        ensures members { IfOk result (λ g. members_of g ≡ replicate 16 false) }
     {
         match Places::new(alloc) {
             Ok(places) => Ok(Gather {
@@ -61,8 +62,9 @@ impl Gather {
     /// Forgets members, pieces and counts, takes this MRRU as ours, and expects number 0.
     pub fn restart(&mut self, mrru: u16)
         requires { (LEAST_MRRU ≤ mrru) × (mrru ≤ MOST_MRRU) }
-        ensures stands { StandsFor self.new [] (nothing long_space) }
+        ensures stands { StandsFor long_space self.new [] (nothing long_space) }
         ensures mrru { self.new.mrru ≡ mrru }
+        ensures members { members_of self.new ≡ replicate 16 false }
     {
         self.facts.mrru = mrru;
         self.facts.base = 0;
@@ -75,8 +77,9 @@ impl Gather {
     /// is.
     pub fn join(&mut self, link: LinkId)
         ensures mrru { self.new.mrru ≡ self.old.mrru }
+        ensures members { members_of self.new ≡ slice_set (members_of self.old) (link - 1) true }
         ensures same { IsJoined self.old link → self.new ≡ self.old }
-        ensures stands { (past : List Entry) (s : Gathering) → StandsFor self.old past s → Adds self.new past s (Joins link) [] }
+        ensures stands { (past : List Entry) (s : Gathering) → StandsFor long_space self.old past s → Adds long_space self.new past s (Joins link) [] }
     {
         let at = usize::from(link.number() - 1);
         if !self.facts.is_member(at) {
@@ -87,9 +90,10 @@ impl Gather {
     /// A link leaves, which may let packets through that waited for it. Where it is no member, nothing changes.
     pub fn leave(&mut self, link: LinkId, given: &mut Given)
         ensures mrru { self.new.mrru ≡ self.old.mrru }
+        ensures members { members_of self.new ≡ slice_set (members_of self.old) (link - 1) false }
         ensures same { ¬ (IsJoined self.old link) → (self.new ≡ self.old) × (given.new ≡ []) }
-        ensures stands { (past : List Entry) (s : Gathering) → StandsFor self.old past s → Adds self.new past s (Leaves link) given.new }
-        ensures whole { (past : List Entry) (s : Gathering) → StandsFor self.new past s → AreInOrder s.kept 0 s.least s.given }
+        ensures stands { (past : List Entry) (s : Gathering) → StandsFor long_space self.old past s → Adds long_space self.new past s (Leaves link) given.new }
+        ensures whole { (past : List Entry) (s : Gathering) → StandsFor long_space self.new past s → AreInOrder s.kept 0 s.least s.given }
     {
         given.clear();
         let at = usize::from(link.number() - 1);
@@ -104,12 +108,13 @@ impl Gather {
     pub fn piece(&mut self, from: LinkId, information: &[u8], given: &mut Given) -> PieceNow
         requires { length information.now ≤ MOST_FRAME }
         ensures mrru { self.new.mrru ≡ self.old.mrru }
+        ensures members { members_of self.new ≡ members_of self.old }
         ensures stranger { (result ≡ PieceNow.Stranger) ↔ ¬ (IsJoined self.old from) }
         ensures bad_header { (result ≡ PieceNow.BadHeader) ↔ (IsJoined self.old from × (length information.now < 4)) }
         ensures refused { (result ≡ PieceNow.Stranger) ⊎ (result ≡ PieceNow.BadHeader) → (self.new ≡ self.old) × (given.new ≡ []) }
-        ensures stands { (past : List Entry) (s : Gathering) → StandsFor self.old past s → 4 ≤ length information.now
-            → AddsPiece self.new past s from (fragment_of information.now) result given.new }
-        ensures whole { (past : List Entry) (s : Gathering) → StandsFor self.new past s → AreInOrder s.kept 0 s.least s.given }
+        ensures stands { (past : List Entry) (s : Gathering) → StandsFor long_space self.old past s → 4 ≤ length information.now
+            → AddsPiece long_space self.new past s from (fragment_of long_space long_octets information.now) result given.new }
+        ensures whole { (past : List Entry) (s : Gathering) → StandsFor long_space self.new past s → AreInOrder s.kept 0 s.least s.given }
     {
         given.clear();
         let at = usize::from(from.number() - 1);
@@ -125,7 +130,7 @@ impl Gather {
     /// What was thrown away since the gatherer was made or restarted.
     pub fn counts(&self) -> GatherCounts
         ensures value { result ≡ self.now.counts }
-        ensures delivered { (past : List Entry) (s : Gathering) → StandsFor self.now past s → result ≡ counted s }
+        ensures delivered { (past : List Entry) (s : Gathering) → StandsFor long_space self.now past s → result ≡ counted s }
     {
         self.facts.counts
     }
@@ -148,7 +153,7 @@ fn fragment_of(information: &[u8]) -> Option<(u32, WaitingPiece)>
     requires { length information.now ≤ MOST_FRAME }
     ensures some { IsSome result ↔ (4 ≤ length information.now) }
     ensures field { IfSome result (λ found. found.0 < long_space) }
-    ensures is { IfSome result (λ found. fragment_of information.now ≡ arrived found.0 found.1) }
+    ensures is { IfSome result (λ found. fragment_of long_space long_octets information.now ≡ arrived found.0 found.1) }
 {
     let [control, high, middle, low, octets @ ..] = information else {
         return None;

@@ -1,9 +1,9 @@
-ghost use Rattle.std.specs.Prelude.{◌≡◌, ◌≢◌, ℕ, ◌+◌, ◌-◌, ◌%◌, ◌^◌, ◌<◌, ◌≤◌, List, [], ◌∷◌, ◌++◌, length, min, map, option_map, None, Some, unwrap_or, false, max, slice_set, slice_index_or, ◌==◌, if◌then◌else◌, is_some};
+ghost use Rattle.std.specs.Prelude.{◌≡◌, ◌≢◌, ℕ, ◌+◌, ◌-◌, ◌%◌, ◌^◌, ◌<◌, ◌≤◌, List, [], ◌∷◌, ◌++◌, length, min, map, option_map, None, Some, unwrap_or, false, max, slice_set, slice_index_or, ◌==◌, if◌then◌else◌, is_some, true};
 ghost use Rattle.ppp_mp.specs.Delivered.{lowest, lesser, Gathering, AtRest, mark};
-ghost use Rattle.ppp_mp.specs.LongHeader.{long_space};
+ghost use Rattle.ppp_mp.specs.Header.{long_space};
 ghost use Rattle.ppp_mp.specs.Places.{place, tally, ends};
 ghost use Rattle.ppp_mp.specs.Moves.{IsMoved, HasSettled, HasSettledNow, HasCompleted, HasTaken, arrived};
-ghost use Rattle.ppp_mp.specs.StandsFor.{KeepsNow};
+ghost use Rattle.ppp_mp.specs.StandsFor.{KeepsNow, members_of};
 
 use crate::counts::PieceNow;
 use crate::facts::GatherFacts;
@@ -24,11 +24,13 @@ impl GatherFacts {
         requires field { field < long_space }
         requires empty { given.old ≡ [] }
         requires rest { ends (place self.old.places 0) ≡ false }
+        requires member { is_some (slice_index_or self.old.overs at None) ≡ true }
         ensures mrru { self.new.mrru ≡ self.old.mrru }
+        ensures members { members_of self.new ≡ members_of self.old }
         ensures rest { ends (place self.new.places 0) ≡ false }
         ensures other { (result ≢ PieceNow.Stranger) × (result ≢ PieceNow.BadHeader) }
-        ensures takes { (s : Gathering) → KeepsNow self.old s → AtRest self.old.mrru (mark s) s
-            → HasTaken self.old.mrru s (at + 1) (arrived field piece) result self.new given.new }
+        ensures takes { (s : Gathering) → KeepsNow long_space self.old s → AtRest self.old.mrru (mark s) s
+            → HasTaken long_space self.old.mrru s (at + 1) (arrived field piece) result self.new given.new }
     {
         let ahead = ahead_of(self.base, field);
         if HALF <= ahead {
@@ -106,8 +108,9 @@ impl GatherFacts {
     pub(crate) fn settle_now(&mut self, given: &mut Given)
         requires { length given.old + tally ends self.old.places 128 ≤ 128 }
         ensures mrru { self.new.mrru ≡ self.old.mrru }
+        ensures members { members_of self.new ≡ members_of self.old }
         ensures rest { ends (place self.new.places 0) ≡ false }
-        ensures settled { HasSettledNow self.old self.new given.old given.new }
+        ensures settled { HasSettledNow long_space self.old self.new given.old given.new }
     {
         let bound = self.bound();
         self.settle(bound, given);
@@ -134,9 +137,10 @@ impl GatherFacts {
         requires { length given.old + tally ends self.old.places 128 ≤ 128 }
         ensures past { (i : ℕ) → 128 ≤ i → place self.new.places i ≡ None }
         ensures mrru { self.new.mrru ≡ self.old.mrru }
+        ensures members { members_of self.new ≡ members_of self.old }
         ensures room { length given.new + tally ends self.new.places 128 ≤ length given.old + tally ends self.old.places 128 }
         ensures rest { ends (place self.new.places 0) ≡ false }
-        ensures settled { HasSettled bound self.old self.new given.old given.new }
+        ensures settled { HasSettled long_space bound self.old self.new given.old given.new }
     {
         let mut left = bound;
         'rules: loop {
@@ -160,7 +164,7 @@ impl GatherFacts {
 
     // So many numbers are lost.
     fn lose(&mut self, count: u32)
-        ensures moved { IsMoved self.old self.new count }
+        ensures moved { IsMoved long_space self.old self.new count }
         ensures counts { self.new.counts ≡ record self.old.counts { lost = min (self.old.counts.lost + count) (2 ^ 64 - 1) } }
     {
         self.advance(count);
@@ -169,7 +173,7 @@ impl GatherFacts {
 
     // So many numbers are settled.
     fn advance(&mut self, count: u32)
-        ensures moved { IsMoved self.old self.new count }
+        ensures moved { IsMoved long_space self.old self.new count }
         ensures counts { self.new.counts ≡ self.old.counts }
     {
         self.base = number_after(self.base, count);
@@ -180,7 +184,7 @@ impl GatherFacts {
     // So many pieces are given as a packet, or counted as too long.
     fn complete(&mut self, count: u32, given: &mut Given)
         requires room { length given.old < 128 }
-        ensures moved { IsMoved self.old self.new count }
+        ensures moved { IsMoved long_space self.old self.new count }
         ensures packet { HasCompleted self.old self.new count given.old given.new }
     {
         match self.places.join(count, usize::from(self.mrru) + 2) {

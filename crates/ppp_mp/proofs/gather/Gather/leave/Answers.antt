@@ -1,5 +1,7 @@
 use Rattle.std.proofs.Common.{◌≡◌, ◌-◌, ◌∙◌, ap, sym, None, true, false, is_some, slice_set, slice_index_or}
 use Rattle.ppp_mp.specs.declared.facts.GatherFacts.{GatherFacts}
+use Rattle.ppp_mp.specs.StandsFor.{members_of}
+use Rattle.ppp_mp.proofs.MemberCalls.{map_set, same_there}
 use Rattle.ppp_mp.proofs.Calls.{whole_now, left_stands, stranger_left}
 use Rattle.ppp_mp.proofs.SettlingLemmas.{room_first}
 use Rattle.ppp_mp.proofs.gather.Gather.leave.Goals as goal
@@ -26,3 +28,15 @@ returns-then-is_member-clause-whole c = λ past s stands. whole_now _ past s sta
 
 pub returns-else-is_member-clause-whole : goal.returns-else-is_member-clause-whole
 returns-else-is_member-clause-whole c = λ past s stands. whole_now _ past s stands
+
+pub returns-then-is_member-clause-members : goal.returns-then-is_member-clause-members
+returns-then-is_member-clause-members c =
+    let at : c.from-at.result ≡ c.args.link - 1 = c.from-at.ensures ∙ ap (λ n. n - 1) c.number.ensures.value in
+    let left : c.drop_out.new.self ≡ record c.self.inside.facts { overs = slice_set c.self.inside.facts.overs (c.args.link - 1) None } = rw (← at) c.drop_out.ensures in
+    c.settle_now.ensures.members ∙ ap members_of left ∙ map_set c.self.inside.facts.overs (c.args.link - 1) None ∙ ap (λ (g : GatherFacts). slice_set (members_of g) (c.args.link - 1) false) c.self.view_is
+
+pub returns-else-is_member-clause-members : goal.returns-else-is_member-clause-members
+returns-else-is_member-clause-members c =
+    let at : c.from-at.result ≡ c.args.link - 1 = c.from-at.ensures ∙ ap (λ n. n - 1) c.number.ensures.value in
+    let out : is_some (slice_index_or c.self.inside.facts.overs (c.args.link - 1) None) ≡ false = rw (← at) (sym c.is_member.ensures ∙ c.if-is_member.false) in
+    ap members_of (sym c.self.view_is) ∙ sym (same_there c.self.inside.facts.overs (c.args.link - 1) false out) ∙ ap (λ (g : GatherFacts). slice_set (members_of g) (c.args.link - 1) false) c.self.view_is

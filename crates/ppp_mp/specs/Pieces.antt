@@ -29,8 +29,9 @@ IsInside kept n i = (p : Piece) × (piece_at (n + i) kept ≡ Some p) × (p.firs
 abbrev pub Begun : (kept : List Piece) (n len : ℕ) → Type 0
 Begun kept n len = (i : ℕ) → i < len → IsInside kept n i
 
--- A packet is whole: the joined octets of pieces with consecutive full numbers, B at the first alone, E at the last alone.
-pub record Whole (kept : List Piece) (packet : List ℕ) : Type 0 where
+-- A packet is a run of what is kept: the joined octets of pieces with consecutive full numbers, B at the first alone, E at
+-- the last alone.
+pub record Run (kept : List Piece) (packet : List ℕ) : Type 0 where
   pub from : ℕ
   pub others : ℕ
   pub end : Piece
@@ -40,8 +41,8 @@ pub record Whole (kept : List Piece) (packet : List ℕ) : Type 0 where
   pub last : end.last ≡ true
   pub octets : packet ≡ joined kept from (suc others)
 
--- The packets are whole, in the order of their numbers, and no number is in two of them: the first begins at `low` or
+-- The packets are runs, in the order of their numbers, and no number is in two of them: the first begins at `low` or
 -- behind it, each other one behind the end of the one before, and all end below `high`.
 abbrev pub AreInOrder : (kept : List Piece) (low high : ℕ) → List (List ℕ) → Type 0
 AreInOrder kept low high [] = low ≤ high
-AreInOrder kept low high (packet ∷ packets) = (whole : Whole kept packet) × (low ≤ whole.from) × AreInOrder kept (whole.from + suc whole.others) high packets
+AreInOrder kept low high (packet ∷ packets) = (run : Run kept packet) × (low ≤ run.from) × AreInOrder kept (run.from + suc run.others) high packets
