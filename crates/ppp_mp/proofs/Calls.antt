@@ -3,13 +3,14 @@ use Rattle.std.proofs.Common.{◌≡◌, ℕ, ◌+◌, ◌-◌, ◌++◌, List, 
 use Rattle.ppp_mp.specs.Delivered.{Gathering, Entry, Fragment, Joins, Leaves, Delivered, Settles, AtRest, IsMember, Takes, Left, joins, leaves, mark}
 use Rattle.ppp_mp.specs.Header.{long_space}
 use Rattle.ppp_mp.specs.Moves.{HasTaken, HasSettledNow}
-use Rattle.ppp_mp.specs.StandsFor.{KeepsNow, StandsFor, Adds, AddsPiece}
+use Rattle.ppp_mp.specs.StandsFor.{KeepsNow, StandsFor, Adds, AddsPiece, with_looks}
 use Rattle.ppp_mp.specs.declared.counts.PieceNow.{PieceNow}
 use Rattle.ppp_mp.specs.declared.counts.PieceNow.TheVariants.{Stranger}
 use Rattle.ppp_mp.specs.declared.facts.GatherFacts.{GatherFacts}
 use Rattle.ppp_mp.proofs.Rests.{delivered_rests}
 use Rattle.ppp_mp.specs.Pieces.{AreInOrder}
 use Rattle.ppp_mp.proofs.Wholes.{delivered_whole}
+use Rattle.ppp_mp.proofs.SettlingLemmas.{looks_keeps}
 use Rattle.ppp_mp.proofs.Taking.{joins_keeps, leaves_keeps, member-is, is-member}
 
 no-member : (o : Option ℕ) → is_some o ≡ false → ¬ (IsSome o)
@@ -77,3 +78,9 @@ piece_stands g g1 g' packets past s link at fragment fragment' answer same link_
 -- Each packet that was given is whole.
 pub whole_now : (g : GatherFacts) (past : List Entry) (s : Gathering) → StandsFor long_space g past s → AreInOrder s.kept 0 s.least s.given
 whole_now g past s stands = delivered_whole long_space g.mrru past s stands.delivered
+
+-- A gatherer stands for what it stood for, whatever looks are counted.
+pub looks_stand : (g g' : GatherFacts) (past : List Entry) (s : Gathering) → g' ≡ with_looks 0 g → StandsFor long_space g past s → StandsFor long_space g' past s
+looks_stand g g' past s same stands =
+    let now : StandsFor long_space (with_looks 0 g) past s = record { delivered = stands.delivered; keeps = looks_keeps g 0 s stands.keeps } in
+    subst (λ (x : GatherFacts). StandsFor long_space x past s) (sym same) now

@@ -1,18 +1,25 @@
 -- What the single steps of a gatherer do to what it keeps.
-use Rattle.std.specs.Prelude.{◌≡◌, ℕ, ◌+◌, ◌-◌, ◌%◌, ◌≤◌, ◌<◌, List, [], ◌∷◌, ◌++◌, map, length, option_map}
+use Rattle.std.specs.Prelude.{◌≡◌, ℕ, ◌+◌, ◌-◌, ◌%◌, ◌≤◌, ◌<◌, List, [], ◌∷◌, ◌++◌, map, min, length, option_map, ◌≢◌, ◌==◌, Some, None, Option, if◌then◌else◌}
 use Rattle.ppp_mp.specs.Delivered.{Gathering, Fragment, Settles, TakesOf, mark}
 use Rattle.ppp_mp.specs.Places.{place, joined_there}
 use Rattle.ppp_mp.specs.StandsFor.{KeepsNow, stopped}
-use Rattle.ppp_mp.specs.declared.places.WaitingPiece.{WaitingPiece}
+use Rattle.ppp_mp.specs.declared.slots.SlotPiece.{SlotPiece}
 use Rattle.ppp_mp.specs.declared.counts.PieceNow.{PieceNow}
 use Rattle.ppp_mp.specs.declared.facts.GatherFacts.{GatherFacts}
 
 -- So many numbers are settled.
 pub record IsMoved (space : ℕ) (old new : GatherFacts) (count : ℕ) : Type 0 where
   pub mrru : new.mrru ≡ old.mrru
-  pub base : new.base ≡ (old.base + count) % space
-  pub places : (i : ℕ) → place new.places i ≡ place old.places (i + count)
+  pub base : new.places.base ≡ (old.places.base + count) % space
+  pub places : (i : ℕ) → place new.places.pieces i ≡ place old.places.pieces (i + count)
+  pub end : new.places.end ≡ old.places.end - count
+  pub looks : new.places.looks ≤ old.places.looks + min count old.places.end
   pub overs : new.overs ≡ map (option_map (λ n. n - count)) old.overs
+
+-- A piece begins to wait at a place, where none does.
+pub record IsKept (old new : List (Option SlotPiece)) (i : ℕ) (piece : SlotPiece) : Type 0 where
+  pub empty : place old i ≡ None → (j : ℕ) → place new j ≡ (if j == i then Some piece else place old j)
+  pub taken : place old i ≢ None → (j : ℕ) → place new j ≡ place old j
 
 -- A gatherer keeps a gathering, and these packets are the last that it has given.
 pub record Holds (space : ℕ) (before : List (List ℕ)) (g : GatherFacts) (packets : List (List ℕ)) (s : Gathering) : Type 0 where
@@ -20,7 +27,7 @@ pub record Holds (space : ℕ) (before : List (List ℕ)) (g : GatherFacts) (pac
   pub given : s.given ≡ before ++ packets
 
 -- A waiting piece as it arrived.
-abbrev pub arrived : (field : ℕ) → WaitingPiece → Fragment
+abbrev pub arrived : (field : ℕ) → SlotPiece → Fragment
 arrived field p = record { field = field; first = p.first; last = p.last; octets = p.octets }
 
 -- A member's piece has been taken, and these packets were given.
@@ -42,5 +49,5 @@ HasSettled space bound old new packets packets' =
 
 -- So many pieces from the first place on are given as a packet, or counted as too long.
 pub record HasCompleted (old new : GatherFacts) (count : ℕ) (packets packets' : List (List ℕ)) : Type 0 where
-  pub long : old.mrru + 2 < length (joined_there old.places count) → (packets' ≡ packets) × (new.counts ≡ record old.counts { too_long = stopped (old.counts.too_long + 1) })
-  pub fits : length (joined_there old.places count) ≤ old.mrru + 2 → (packets' ≡ packets ++ joined_there old.places count ∷ []) × (new.counts ≡ old.counts)
+  pub long : old.mrru + 2 < length (joined_there old.places.pieces count) → (packets' ≡ packets) × (new.counts ≡ record old.counts { too_long = stopped (old.counts.too_long + 1) })
+  pub fits : length (joined_there old.places.pieces count) ≤ old.mrru + 2 → (packets' ≡ packets ++ joined_there old.places.pieces count ∷ []) × (new.counts ≡ old.counts)

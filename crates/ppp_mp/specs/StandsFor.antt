@@ -3,13 +3,13 @@ use Rattle.std.specs.Prelude.{◌≡◌, ℕ, ◌+◌, ◌-◌, ◌%◌, ◌^◌
 use Rattle.ppp_mp.specs.Pieces.{Piece, piece_at}
 use Rattle.ppp_mp.specs.Delivered.{Gathering, Fragment, Entry, Comes, Delivered, Takes}
 use Rattle.ppp_mp.specs.Places.{place}
-use Rattle.ppp_mp.specs.declared.places.WaitingPiece.{WaitingPiece}
+use Rattle.ppp_mp.specs.declared.slots.SlotPiece.{SlotPiece}
 use Rattle.ppp_mp.specs.declared.counts.GatherCounts.{GatherCounts}
 use Rattle.ppp_mp.specs.declared.counts.PieceNow.{PieceNow}
 use Rattle.ppp_mp.specs.declared.facts.GatherFacts.{GatherFacts}
 
 -- a waiting piece with its number
-abbrev pub waiting : ℕ → WaitingPiece → Piece
+abbrev pub waiting : ℕ → SlotPiece → Piece
 waiting n p = record { number = n; first = p.first; last = p.last; octets = p.octets }
 
 -- a count stands still at the end of a u64
@@ -25,9 +25,9 @@ overs_of s = map (option_map (λ n. n - s.least)) s.brought
 
 -- A gatherer keeps a gathering. All its numbers but the base are counted from the least number that isn't settled.
 pub record KeepsNow (space : ℕ) (g : GatherFacts) (s : Gathering) : Type 0 where
-  pub base : g.base ≡ s.least % space
+  pub base : g.places.base ≡ s.least % space
   pub raised : space ≤ s.least
-  pub places : (i : ℕ) → piece_at (s.least + i) s.kept ≡ option_map (waiting (s.least + i)) (place g.places i)
+  pub places : (i : ℕ) → piece_at (s.least + i) s.kept ≡ option_map (waiting (s.least + i)) (place g.places.pieces i)
   pub overs : g.overs ≡ overs_of s
   pub counts : g.counts ≡ counted s
 
@@ -39,6 +39,10 @@ pub record StandsFor (space : ℕ) (g : GatherFacts) (past : List Entry) (s : Ga
 -- A link has joined.
 abbrev pub IsJoined : GatherFacts → (link : ℕ) → Type 0
 IsJoined g link = IsSome (slice_index_or g.overs (link - 1) None)
+
+-- the same but for the looks
+abbrev pub with_looks : ℕ → GatherFacts → GatherFacts
+with_looks looks g = record g { places = record g.places { looks = looks } }
 
 -- for each link whether it is a member
 abbrev pub members_of : GatherFacts → List Bool

@@ -1,6 +1,6 @@
 use super::*;
 use arrayvec::ArrayVec;
-use ppp_base::{LEAST_MRU, LinkId};
+use ppp_base::{Frame, LEAST_MRU, LinkId};
 use std::alloc::{AllocError, Global};
 use std::process::Abort;
 use std::test::Fail;
@@ -197,23 +197,55 @@ fn numbers_begin_anew(rt: HostRuntime) -> Result<(), Fail> {
 fn a_member_that_lags(rt: HostRuntime) -> Result<(), Fail> {
     let mut gather = Gather::new(rt.alloc(), 1500)?;
     let mut given = Given::new(rt.alloc())?;
-    gather.join(link(&rt, 1));
-    gather.join(link(&rt, 2));
-    for number in 1..128u8 {
-        let answered = gather.piece(link(&rt, 1), &[0xc0, 0, 0, number], &mut given);
+    // The last piece, the link that brings it, and how many numbers are lost: 127 beyond the least, or the least itself.
+    for (number, from, lost) in [(128, 1, 1), (0, 2, 0)] {
+        gather.restart(1500);
+        gather.join(link(&rt, 1));
+        gather.join(link(&rt, 2));
+        for number in 1..128u8 {
+            let answered = gather.piece(link(&rt, 1), &[0xc0, 0, 0, number], &mut given);
+            assert_eq!(rt;
+                (answered, given.count()),
+                (PieceNow::Kept, 0),
+                "at {number}"
+            );
+        }
+        let answered = gather.piece(link(&rt, from), &[0xc0, 0, 0, number], &mut given);
         assert_eq!(rt;
-            (answered, given.count()),
-            (PieceNow::Kept, 0),
+            (answered, given.count(), gather.counts().lost),
+            (PieceNow::Kept, 128, lost),
             "at {number}"
         );
+        assert!(rt; gather.looks() <= 1024, "{}", gather.looks());
     }
-    comes(
-        &rt,
-        &mut gather,
-        &mut given,
-        &[Row(1, &[0xc0, 0, 0, 128], PieceNow::Kept, 128)],
-    );
-    assert_eq!(rt; gather.counts().lost, 1);
+    Ok(())
+}
+
+#[test]
+fn slots_by_number(rt: HostRuntime) -> Result<(), Fail> {
+    let mut slots = Slots::new(rt.alloc())?;
+    assert!(rt; slots.at(16_777_215).is_none());
+    let octets = Frame::from_octets(b"ab").expect(&rt, "it fits");
+    let piece = SlotPiece {
+        first: true,
+        last: false,
+        len: 2,
+        octets,
+    };
+    slots.put(16_777_215, piece);
+    let view = SlotView {
+        first: true,
+        last: false,
+        len: 2,
+    };
+    assert_eq!(rt; slots.at(16_777_215), Some(view));
+    assert!(rt; slots.at(127).is_none() && slots.clear(127).is_none());
+    let piece = slots.clear(16_777_215).expect(&rt, "it was put");
+    assert_eq!(rt; piece.octets.as_slice(), b"ab".as_slice());
+    assert!(rt; slots.at(16_777_215).is_none());
+    assert_eq!(rt; slots.looks(), 7);
+    slots.reset();
+    assert_eq!(rt; slots.looks(), 0);
     Ok(())
 }
 
@@ -230,6 +262,7 @@ fn a_far_jump(rt: HostRuntime) -> Result<(), Fail> {
     );
     assert!(rt; is_packet(&given, 0, b"x"));
     assert_eq!(rt; gather.counts().lost, 8_388_000);
+    assert!(rt; gather.looks() <= 1024, "{}", gather.looks());
     Ok(())
 }
 
