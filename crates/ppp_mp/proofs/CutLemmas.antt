@@ -11,7 +11,7 @@ use Rattle.ppp_mp.specs.Cut.{Cut, IsPiece, share, least_mru, piece_size}
 
 fold-wide : (members : List MemberView) (low most : ℕ) → 128 ≤ most → AreMembers low members → 128 ≤ fold (λ least (member : MemberView). min least member.mru) most members
 fold-wide [] low most wide all = wide
-fold-wide (member ∷ members) low most wide all = fold-wide members member.link (min most member.mru) (let here : 128 ≤ member.mru = all.2 in omega arith) all.3
+fold-wide (member ∷ members) low most wide all = fold-wide members member.link (min most member.mru) (let here : 128 ≤ member.mru = all.2 in omega arith) all.4
 
 pub least-wide : (members : List MemberView) → AreMembers 0 members → 128 ≤ least_mru members
 least-wide members all = fold-wide members 0 65535 (omega arith) all
@@ -52,10 +52,10 @@ none-empty len size j some below =
     let split : size * suc j ≡ size * j + size = mul-suc size j in
     rw (mul_comm j size) (omega (arith, whole.0))
 
-pub is_cut : (len : ℕ) (members members' : List MemberView) (turn size j : ℕ) (pieces : List CutPiece) → members' ≡ members → size ≡ piece_size len members' → 0 < size → 0 < len
+pub is_cut : (header : ℕ) → (len : ℕ) (members members' : List MemberView) (turn size j : ℕ) (pieces : List CutPiece) → members' ≡ members → size ≡ piece_size header len members' → 0 < size → 0 < len
     → length pieces ≡ j → j ≡ (len + size - 1) / size → ((k : ℕ) → k < j → (other : CutPiece) → IsPiece len members' turn size k (slice_index_or pieces k other))
-    → Cut len members turn pieces
-is_cut len members members' turn size j pieces same size_is some len_some count whole each =
+    → Cut header len members turn pieces
+is_cut header len members members' turn size j pieces same size_is some len_some count whole each =
     let P : ℕ → Type 0 = λ n. ((k : ℕ) → k < length pieces → (other : CutPiece) → IsPiece len members turn n k (slice_index_or pieces k other)) × (len ≤ length pieces * n) × ((length pieces - 1) * n < len) in
     let reaches : len ≤ length pieces * size = rw (count, whole) (count-ends len size some) in
     let last : (length pieces - 1) * size < len = elim (cases_lt 0 (length pieces)) [
@@ -63,6 +63,6 @@ is_cut len members members' turn size j pieces same size_is some len_some count 
       | inr none ↦ let zero_is : length pieces ≡ 0 = omega arith in let e : length pieces * size ≡ 0 = rw zero_is (zero-mul size) in absurd (omega arith)
     ] in
     let all : P size = ((λ k below other. rw (← same) (each k (omega arith) other)), reaches, last) in
-    let now : size ≡ piece_size len members = rw (← same) size_is in
-    let parts : P (piece_size len members) = subst P now all in
+    let now : size ≡ piece_size header len members = rw (← same) size_is in
+    let parts : P (piece_size header len members) = subst P now all in
     record { each = parts.0; ends = parts.1; none_empty = parts.2 }

@@ -2,7 +2,7 @@
 use Rattle.std.proofs.Common.{◌≡◌, ◌≢◌, ℕ, ◌+◌, ◌-◌, ◌*◌, ◌<◌, ◌≤◌, ◌⊎◌, zero, suc, max, nat_lt, nat_eq, Bool, true, false, cond, List, [], ◌∷◌, Option, None, Some, is_some, slice_set, slice_index_or, refl, sym, ap, subst, ◌∙◌, arith, inl, inr}
 use Rattle.std.proofs.lemmas.Bool.{cases_lt}
 use Rattle.std.proofs.lemmas.Bool.Decides.{nat_tests}
-use Rattle.ppp_mp.specs.Whole.{Piece, piece_at, Begun, IsInside}
+use Rattle.ppp_mp.specs.Pieces.{Piece, piece_at, Begun, IsInside}
 use Rattle.ppp_mp.specs.Delivered.{Gathering, Entry, Fragment, Joins, Leaves, Comes, Delivered, Takes, Left, Keeps, Answered, Rule, Rules, Settles, AtRest, ruled, behind, goes_on, loses, completes, mark, brings, joins, leaves, keeps_piece, nothing, numbered}
 use Rattle.ppp_mp.specs.declared.counts.PieceNow.{PieceNow}
 use Rattle.ppp_mp.specs.declared.counts.PieceNow.TheVariants.{Kept, Old, Doubled, Stranger, BadHeader}
@@ -208,7 +208,7 @@ left_some mrru s link = elim (member_cases (slice_index_or s.brought (link - 1) 
   | inr out ↦ (s, record { member = λ member. absurd (out member); stranger = λ _. refl }, omega arith)
 ]
 
-raised_some : (space half mrru : ℕ) (past : List Entry) → space ≡ 2 * half → 0 < half → (s : Gathering) × Delivered space mrru past s × (space ≤ s.least)
+pub raised_some : (space half mrru : ℕ) (past : List Entry) → space ≡ 2 * half → 0 < half → (s : Gathering) × Delivered space mrru past s × (space ≤ s.least)
 raised_some space half mrru [] is some = (nothing space, refl, omega arith)
 raised_some space half mrru (Joins link ∷ past) is some =
     let t = raised_some space half mrru past is some in

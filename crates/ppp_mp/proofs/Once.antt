@@ -1,7 +1,7 @@
 -- At most one rule applies at a time, so what the rules lead to is one.
 use Rattle.std.proofs.Common.{◌≡◌, ℕ, ◌<◌, zero, suc, None, Some, sym, ap, subst, ◌∙◌, arith, inl, inr}
 use Rattle.std.proofs.lemmas.Bool.{cases_lt}
-use Rattle.ppp_mp.specs.Whole.{Begun}
+use Rattle.ppp_mp.specs.Pieces.{Begun}
 use Rattle.ppp_mp.specs.Delivered.{Gathering, Rule, Rules, Settles, ruled, behind}
 use Rattle.ppp_mp.proofs.RuleLemmas.{inside_rests}
 use Rattle.ppp_mp.proofs.Rests.{some_same}

@@ -1,46 +1,13 @@
 -- Places of waiting pieces.
-use Rattle.std.proofs.Common.{cond, nat_eq, ◌≡◌, ◌-◌, length-append, nat_lt, Bool, true, false, not, ℕ, ◌+◌, ◌<◌, ◌≤◌, zero, suc, List, [], ◌∷◌, length, Option, None, Some, ◌++◌, drop, min, slice_set, refl, sym, ap, ◌∙◌, arith}
-use Rattle.std.proofs.lemmas.List.{get_or_past}
-use Rattle.std.proofs.Math.Seq.{drop-length}
-use Rattle.std.proofs.Math.ListN.{drop_of_length-le}
+use Rattle.std.proofs.Common.{cond, nat_eq, ◌≡◌, ◌≢◌, ◌⊎◌, ◌-◌, length-append, nat_lt, Bool, true, false, not, ℕ, ◌+◌, ◌<◌, ◌≤◌, zero, suc, List, [], ◌∷◌, length, Option, None, Some, refl, ap, ◌∙◌, arith}
 use Rattle.std.proofs.lemmas.Bool.{cases_lt}
 use Rattle.std.proofs.lemmas.Bool.Decides.{nat_tests}
 use Rattle.std.proofs.Common.{inl, inr}
 use mathlib.Core.Bool.{beq}
-use Rattle.ppp_mp.specs.declared.places.WaitingPiece.{WaitingPiece}
+use Rattle.ppp_mp.specs.declared.slots.SlotPiece.{SlotPiece}
+use Rattle.ppp_mp.specs.Moves.{IsKept}
 use Rattle.ppp_mp.specs.Places.{place, joined_there, octets_there, tally}
 use Rattle.std.proofs.Math.ListN.{get_or}
-
-pub none-past : (places : List (Option WaitingPiece)) (i n : ℕ) → length places ≤ n → n ≤ i → place places i ≡ None
-none-past places i n len past = get_or_past places i None (omega arith)
-
--- An empty place at the end hides none.
-pub none-more : (places : List (Option WaitingPiece)) (j : ℕ) → place (places ++ None ∷ []) j ≡ place places j
-none-more [] zero = refl
-none-more [] (suc j) = refl
-none-more (p ∷ places) zero = refl
-none-more (p ∷ places) (suc j) = none-more places j
-
--- a place that is set
-pub set-place : (places : List (Option WaitingPiece)) (i j : ℕ) (p : WaitingPiece) → i < length places → place (slice_set places i (Some p)) j ≡ cond (nat_eq j i) (Some p) (place places j)
-set-place [] i j p below = absurd (omega arith)
-set-place (q ∷ places) zero zero p below = refl
-set-place (q ∷ places) zero (suc j) p below = let f : nat_eq (suc j) 0 ≡ false = grind (arith, nat_tests) in rw f refl
-set-place (q ∷ places) (suc i) zero p below = let f : nat_eq 0 (suc i) ≡ false = grind (arith, nat_tests) in rw f refl
-set-place (q ∷ places) (suc i) (suc j) p below =
-    let f : nat_eq (suc j) (suc i) ≡ nat_eq j i = grind (arith, nat_tests) in
-    let h : i < length places = omega arith in
-    rw f (set-place places i j p h)
-
--- all places go where there are fewer
-pub drop-all : (places : List (Option WaitingPiece)) (count : ℕ) → drop (min count (length places)) places ≡ drop count places
-drop-all places count = elim (cases_lt count (length places)) [
-  | inl less ↦ let e : min count (length places) ≡ count = omega arith in rw e refl
-  | inr past ↦
-      let e : min count (length places) ≡ length places = omega arith in
-      let le : length places ≤ count = omega arith in
-      rw e (drop-length places ∙ sym (drop_of_length-le places {i = count} le))
-]
 
 pub same_bool : (a b : Bool) → not (beq a b) ≡ false → a ≡ b
 same_bool true true e = refl
@@ -48,7 +15,7 @@ same_bool false false e = refl
 same_bool true false e = cc
 same_bool false true e = cc
 
-pub joined-grows : (places : List (Option WaitingPiece)) (i n : ℕ) → i ≤ n → length (joined_there places i) ≤ length (joined_there places n)
+pub joined-grows : (places : List (Option SlotPiece)) (i n : ℕ) → i ≤ n → length (joined_there places i) ≤ length (joined_there places n)
 joined-grows places i zero le = let e : i ≡ 0 = omega arith in rw e (omega arith)
 joined-grows places i (suc n) le = elim (cases_lt n i) [
   | inl same ↦ let e : i ≡ suc n = omega arith in rw e (omega arith)
@@ -56,7 +23,7 @@ joined-grows places i (suc n) le = elim (cases_lt n i) [
 ]
 
 -- One more piece is too much, and so are all.
-pub too-long : (places : List (Option WaitingPiece)) (i n limit : ℕ) (p : WaitingPiece) → i < n → place places i ≡ Some p → limit - length (joined_there places i) < length p.octets
+pub too-long : (places : List (Option SlotPiece)) (i n limit : ℕ) (p : SlotPiece) → i < n → place places i ≡ Some p → limit - length (joined_there places i) < length p.octets
     → nat_lt limit (length (joined_there places n)) ≡ true
 too-long places i n limit p below there much =
     let h = joined-grows places (suc i) n below in
@@ -71,14 +38,14 @@ get_or-twice (x ∷ xs) zero d = refl
 get_or-twice (x ∷ xs) (suc i) d = get_or-twice xs i d
 
 -- what is told over places that have moved on
-pub tally-moved : (test : Option WaitingPiece → Bool) (old new : List (Option WaitingPiece)) (count n : ℕ) → ((i : ℕ) → place new i ≡ place old (i + count)) → tally test new n + tally test old count ≡ tally test old (n + count)
+pub tally-moved : (test : Option SlotPiece → Bool) (old new : List (Option SlotPiece)) (count n : ℕ) → ((i : ℕ) → place new i ≡ place old (i + count)) → tally test new n + tally test old count ≡ tally test old (n + count)
 tally-moved test old new count zero moved = let e : 0 + count ≡ count = omega arith in rw e (omega arith)
 tally-moved test old new count (suc n) moved =
     let h = tally-moved test old new count n moved in
     let e : suc n + count ≡ suc (n + count) = omega arith in
     rw (e, moved n) (omega arith)
 
-pub tally-past : (test : Option WaitingPiece → Bool) (old : List (Option WaitingPiece)) (n more : ℕ) → test None ≡ false → ((i : ℕ) → n ≤ i → place old i ≡ None) → tally test old (n + more) ≡ tally test old n
+pub tally-past : (test : Option SlotPiece → Bool) (old : List (Option SlotPiece)) (n more : ℕ) → test None ≡ false → ((i : ℕ) → n ≤ i → place old i ≡ None) → tally test old (n + more) ≡ tally test old n
 tally-past test old n zero none past = let e : n + 0 ≡ n = omega arith in rw e refl
 tally-past test old n (suc more) none past =
     let h = tally-past test old n more none past in
@@ -87,11 +54,11 @@ tally-past test old n (suc more) none past =
     rw (e, f, none) (omega arith)
 
 -- Of places that have moved on, no more are left.
-pub tally-left : (test : Option WaitingPiece → Bool) (old new : List (Option WaitingPiece)) (count : ℕ) → test None ≡ false → ((i : ℕ) → place new i ≡ place old (i + count)) → ((i : ℕ) → 128 ≤ i → place old i ≡ None)
+pub tally-left : (test : Option SlotPiece → Bool) (old new : List (Option SlotPiece)) (count : ℕ) → test None ≡ false → ((i : ℕ) → place new i ≡ place old (i + count)) → ((i : ℕ) → 128 ≤ i → place old i ≡ None)
     → tally test new 128 + tally test old count ≡ tally test old 128
 tally-left test old new count none moved past = tally-moved test old new count 128 moved ∙ tally-past test old 128 count none past
 
-pub tally-one : (test : Option WaitingPiece → Bool) (places : List (Option WaitingPiece)) (i n : ℕ) → i < n → test (place places i) ≡ true → 1 ≤ tally test places n
+pub tally-one : (test : Option SlotPiece → Bool) (places : List (Option SlotPiece)) (i n : ℕ) → i < n → test (place places i) ≡ true → 1 ≤ tally test places n
 tally-one test places i zero below is = absurd (omega arith)
 tally-one test places i (suc n) below is = elim (cases_lt i n) [
   | inl before ↦ let h = tally-one test places i n before is in omega arith
@@ -103,14 +70,14 @@ at-most-one true = omega arith
 at-most-one false = omega arith
 
 -- Where the first place isn't counted, one less is.
-pub tally-rest : (test : Option WaitingPiece → Bool) (places : List (Option WaitingPiece)) (n : ℕ) → test (place places 0) ≡ false → tally test places (suc n) ≤ n
+pub tally-rest : (test : Option SlotPiece → Bool) (places : List (Option SlotPiece)) (n : ℕ) → test (place places 0) ≡ false → tally test places (suc n) ≤ n
 tally-rest test places zero first = rw first (omega arith)
 tally-rest test places (suc n) first =
     let h = tally-rest test places n first in
     let one = at-most-one (test (place places (suc n))) in
     omega arith
 
-tally-same : (test : Option WaitingPiece → Bool) (old new : List (Option WaitingPiece)) (n : ℕ) → ((j : ℕ) → j < n → place new j ≡ place old j) → tally test new n ≡ tally test old n
+pub tally-same : (test : Option SlotPiece → Bool) (old new : List (Option SlotPiece)) (n : ℕ) → ((j : ℕ) → j < n → place new j ≡ place old j) → tally test new n ≡ tally test old n
 tally-same test old new zero same = refl
 tally-same test old new (suc n) same =
     let h = tally-same test old new n (λ j below. same j (omega arith)) in
@@ -118,7 +85,7 @@ tally-same test old new (suc n) same =
     rw (e, h) refl
 
 -- A piece that is put adds one at most.
-pub tally-put : (test : Option WaitingPiece → Bool) (old new : List (Option WaitingPiece)) (d n : ℕ) (p : WaitingPiece) → ((j : ℕ) → place new j ≡ cond (nat_eq j d) (Some p) (place old j)) → tally test new n ≤ tally test old n + 1
+pub tally-put : (test : Option SlotPiece → Bool) (old new : List (Option SlotPiece)) (d n : ℕ) (p : SlotPiece) → ((j : ℕ) → place new j ≡ cond (nat_eq j d) (Some p) (place old j)) → tally test new n ≤ tally test old n + 1
 tally-put test old new d zero p put = omega arith
 tally-put test old new d (suc n) p put = elim (cases_lt n d) [
   | inl below ↦
@@ -135,4 +102,15 @@ tally-put test old new d (suc n) p put = elim (cases_lt n d) [
         let one = at-most-one (test (place new n)) in
         omega arith
   ]
+]
+
+option_cases : (o : Option SlotPiece) → (o ≡ None) ⊎ (o ≢ None)
+option_cases None = inl refl
+option_cases (Some p) = inr (λ h. cc)
+
+-- A piece that is kept adds one at most.
+pub tally-kept : (test : Option SlotPiece → Bool) (old new : List (Option SlotPiece)) (d n : ℕ) (p : SlotPiece) → IsKept old new d p → tally test new n ≤ tally test old n + 1
+tally-kept test old new d n p is = elim (option_cases (place old d)) [
+  | inl none ↦ tally-put test old new d n p (is.empty none)
+  | inr there ↦ let same = tally-same test old new n (λ j below. is.taken there j) in omega arith
 ]

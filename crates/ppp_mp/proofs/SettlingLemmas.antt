@@ -1,29 +1,45 @@
 -- The loop that applies the rules.
-use Rattle.std.proofs.Common.{nat_eq, ◌≡◌, ℕ, ◌+◌, ◌-◌, ◌<◌, ◌≤◌, ◌++◌, suc, max, nat_lt, cond, Bool, true, false, List, [], ◌∷◌, length, zero, option_map, Option, None, Some, refl, sym, ap, subst, ◌∙◌, arith, ◌⊎◌, inl, inr, append_assoc, length-append}
+use Rattle.std.proofs.Common.{◌≡◌, ℕ, ◌+◌, ◌-◌, ◌<◌, ◌≤◌, ◌++◌, suc, max, nat_lt, cond, Bool, true, false, List, [], ◌∷◌, length, zero, option_map, Option, None, Some, refl, sym, ap, subst, ◌∙◌, arith, ◌⊎◌, inl, inr, append_assoc, length-append}
 use Rattle.std.proofs.lemmas.Bool.{cases_lt}
 use Rattle.std.proofs.lemmas.Bool.Decides.{nat_tests}
-use Rattle.ppp_mp.specs.Whole.{joined, piece_at}
+use Rattle.ppp_mp.specs.Header.{long_space}
+use Rattle.ppp_mp.specs.Pieces.{joined, piece_at}
 use Rattle.ppp_mp.specs.Delivered.{Gathering, Rule, Rules, AtRest, loses, completes, ruled}
 use Rattle.ppp_mp.specs.Places.{place, AreMissing, Scanned, joined_there, tally, waits, ends, rule_at, goes_on_there}
-use Rattle.ppp_mp.specs.Moves.{IsMoved, HasCompleted, HasSettled, Holds}
-use Rattle.ppp_mp.specs.StandsFor.{waiting, KeepsNow, stopped, counted}
-use Rattle.ppp_mp.specs.declared.places.WaitingPiece.{WaitingPiece}
+use Rattle.ppp_mp.specs.Moves.{IsMoved, IsKept, HasCompleted, HasSettled, Holds}
+use Rattle.ppp_mp.specs.StandsFor.{waiting, KeepsNow, stopped, counted, with_looks}
+use Rattle.ppp_mp.specs.declared.slots.SlotPiece.{SlotPiece}
 use Rattle.ppp_mp.specs.declared.places.RuleNow.{RuleNow}
 use Rattle.ppp_mp.specs.declared.places.RuleNow.TheVariants.{Rests, Loses, Completes}
 use Rattle.ppp_mp.specs.declared.facts.GatherFacts.{GatherFacts}
 use Rattle.ppp_mp.specs.declared.counts.GatherCounts.{GatherCounts}
 use Rattle.ppp_mp.proofs.RuleLemmas.{scanned_rule, scanned_rests, joined-same, moves, stopped-more}
-use Rattle.ppp_mp.proofs.PlaceLemmas.{tally-left, tally-one, tally-rest, tally-put}
+use Rattle.ppp_mp.proofs.PlaceLemmas.{tally-left, tally-one, tally-rest, tally-kept}
 
 -- So far the rules have been applied so many times.
 pub record Settling (first : GatherFacts) (packets0 : List (List ℕ)) (bound0 : ℕ) (g : GatherFacts) (packets : List (List ℕ)) (bound : ℕ) : Type 0 where
   pub mrru : g.mrru ≡ first.mrru
-  pub room : length packets + tally ends g.places 128 ≤ length packets0 + tally ends first.places 128
-  pub goes : (before : List (List ℕ)) (s : Gathering) (below : ℕ) → Holds before first packets0 s → bound0 ≡ below - s.least
-      → (count : ℕ) × (mid : Gathering) × Rules first.mrru below s count mid × Holds before g packets mid × (bound ≡ below - mid.least)
+  pub room : length packets + tally ends g.places.pieces 128 ≤ length packets0 + tally ends first.places.pieces 128
+  pub goes : (before : List (List ℕ)) (s : Gathering) (below : ℕ) → Holds long_space before first packets0 s → bound0 ≡ below - s.least
+      → (count : ℕ) × (mid : Gathering) × Rules first.mrru below s count mid × Holds long_space before g packets mid × (bound ≡ below - mid.least)
 
 pub settling_begins : (g : GatherFacts) (packets : List (List ℕ)) (bound : ℕ) → Settling g packets bound g packets bound
 settling_begins g packets bound = record { mrru = refl; room = omega arith; goes = λ before s below holds is. (0, s, refl, holds, is) }
+
+-- Looks change nothing of what is kept.
+pub looks_keeps : (g : GatherFacts) (looks : ℕ) (s : Gathering) → KeepsNow long_space g s → KeepsNow long_space (with_looks looks g) s
+looks_keeps g looks s k = record { base = k.base; raised = k.raised; places = k.places; overs = k.overs; counts = k.counts }
+
+pub settling_looked : (first : GatherFacts) (packets0 : List (List ℕ)) (bound0 : ℕ) (g g' : GatherFacts) (packets : List (List ℕ)) (bound looks : ℕ) → g' ≡ with_looks looks g → Settling first packets0 bound0 g packets bound → Settling first packets0 bound0 g' packets bound
+settling_looked first packets0 bound0 g g' packets bound looks same so_far =
+    let now : Settling first packets0 bound0 (with_looks looks g) packets bound = record {
+      mrru = so_far.mrru;
+      room = so_far.room;
+      goes = λ before s below holds is.
+          let t = so_far.goes before s below holds is in
+          (t.0, t.1, t.2, record { keeps = looks_keeps g looks t.1 t.3.keeps; given = t.3.given }, t.4);
+    } in
+    subst (λ (x : GatherFacts). Settling first packets0 bound0 x packets bound) (sym same) now
 
 pub lost-counts : (g g' : GatherFacts) (mid : Gathering) (count : ℕ) → g.counts ≡ counted mid → g'.counts ≡ record g.counts { lost = stopped (g.counts.lost + count) } → g'.counts ≡ counted (loses mid count)
 lost-counts g g' mid count before now =
@@ -32,17 +48,17 @@ lost-counts g g' mid count before now =
     now ∙ ap more before ∙ ap set (stopped-more mid.lost count)
 
 pub settling_loses : (first : GatherFacts) (packets0 : List (List ℕ)) (bound0 : ℕ) (g : GatherFacts) (packets : List (List ℕ)) (bound : ℕ) (g' : GatherFacts) (count bound' : ℕ)
-    → Settling first packets0 bound0 g packets bound → Scanned g.places bound (Loses count) → ((i : ℕ) → 128 ≤ i → place g.places i ≡ None) → IsMoved g g' count
+    → Settling first packets0 bound0 g packets bound → Scanned g.places.pieces bound (Loses count) → ((i : ℕ) → 128 ≤ i → place g.places.pieces i ≡ None) → IsMoved long_space g g' count
     → g'.counts ≡ record g.counts { lost = stopped (g.counts.lost + count) } → bound' ≡ bound - count
     → Settling first packets0 bound0 g' packets bound'
 settling_loses first packets0 bound0 g packets bound g' count bound' so_far scanned past moved counts less = record {
   mrru = moved.mrru ∙ so_far.mrru;
-  room = let left = tally-left ends g.places g'.places count refl moved.places past in omega (arith, so_far.room);
+  room = let left = tally-left ends g.places.pieces g'.places.pieces count refl moved.places past in omega (arith, so_far.room);
   goes = λ before s below holds is.
       let t = so_far.goes before s below holds is in
       let mid : Gathering = t.1 in
       let bound_is : bound ≡ below - mid.least = t.4 in
-      let keeps : KeepsNow g mid = t.3.keeps in
+      let keeps : KeepsNow long_space g mid = t.3.keeps in
       let given : mid.given ≡ before ++ packets = t.3.given in
       let rule : Rule g.mrru below mid (loses mid count) = scanned_rule g.mrru below g mid (loses mid count) bound (Loses count) keeps bound_is scanned refl in
       let P = λ (m : ℕ). Rule m below mid (loses mid count) in (
@@ -85,17 +101,17 @@ misses_rules mrru below s mid before (suc k) rules none le =
     (suc t.0, (loses mid k, t.1, misses_one mrru below mid k (none k (omega arith)) (omega arith)))
 
 pub settling_misses : (first : GatherFacts) (packets0 : List (List ℕ)) (bound0 : ℕ) (g : GatherFacts) (packets : List (List ℕ)) (bound : ℕ) (g' : GatherFacts) (count bound' : ℕ)
-    → Settling first packets0 bound0 g packets bound → AreMissing g.places bound count → ((i : ℕ) → 128 ≤ i → place g.places i ≡ None) → IsMoved g g' count
+    → Settling first packets0 bound0 g packets bound → AreMissing g.places.pieces bound count → ((i : ℕ) → 128 ≤ i → place g.places.pieces i ≡ None) → IsMoved long_space g g' count
     → g'.counts ≡ record g.counts { lost = stopped (g.counts.lost + count) } → bound' ≡ bound - count
     → Settling first packets0 bound0 g' packets bound'
 settling_misses first packets0 bound0 g packets bound g' count bound' so_far missing past moved counts less = record {
   mrru = moved.mrru ∙ so_far.mrru;
-  room = let left = tally-left ends g.places g'.places count refl moved.places past in omega (arith, so_far.room);
+  room = let left = tally-left ends g.places.pieces g'.places.pieces count refl moved.places past in omega (arith, so_far.room);
   goes = λ before s below holds is.
       let t = so_far.goes before s below holds is in
       let mid : Gathering = t.1 in
       let bound_is : bound ≡ below - mid.least = t.4 in
-      let keeps : KeepsNow g mid = t.3.keeps in
+      let keeps : KeepsNow long_space g mid = t.3.keeps in
       let given : mid.given ≡ before ++ packets = t.3.given in
       let some : 0 < count = missing.some in
       let most : count ≤ bound = missing.below in
@@ -111,10 +127,10 @@ settling_misses first packets0 bound0 g packets bound g' count bound' so_far mis
       );
 }
 
-pub misses-fall : (g g' : GatherFacts) (bound bound' count : ℕ) → AreMissing g.places bound count → ((i : ℕ) → 128 ≤ i → place g.places i ≡ None) → IsMoved g g' count → bound' ≡ bound - count
-    → bound' + tally waits g'.places 128 < bound + tally waits g.places 128
+pub misses-fall : (g g' : GatherFacts) (bound bound' count : ℕ) → AreMissing g.places.pieces bound count → ((i : ℕ) → 128 ≤ i → place g.places.pieces i ≡ None) → IsMoved long_space g g' count → bound' ≡ bound - count
+    → bound' + tally waits g'.places.pieces 128 < bound + tally waits g.places.pieces 128
 misses-fall g g' bound bound' count missing past moved less =
-    let left = tally-left waits g.places g'.places count refl moved.places past in
+    let left = tally-left waits g.places.pieces g'.places.pieces count refl moved.places past in
     let some : 0 < count = missing.some in
     let most : count ≤ bound = missing.below in
     omega arith
@@ -133,13 +149,13 @@ long-counts g g' mid count before now =
     now ∙ ap more before ∙ ap set (stopped-more mid.too_long 1)
 
 -- what a complete run leaves
-completes_holds : (before : List (List ℕ)) (g g' : GatherFacts) (packets packets' : List (List ℕ)) (mid : Gathering) (count : ℕ) → Holds before g packets mid → IsMoved g g' count → HasCompleted g g' count packets packets'
-    → Holds before g' packets' (completes g.mrru mid count) × ((completes g.mrru mid count).least ≡ mid.least + count)
+completes_holds : (before : List (List ℕ)) (g g' : GatherFacts) (packets packets' : List (List ℕ)) (mid : Gathering) (count : ℕ) → Holds long_space before g packets mid → IsMoved long_space g g' count → HasCompleted g g' count packets packets'
+    → Holds long_space before g' packets' (completes g.mrru mid count) × ((completes g.mrru mid count).least ≡ mid.least + count)
 completes_holds before g g' packets packets' mid count holds moved completed =
-    let same : joined mid.kept mid.least count ≡ joined_there g.places count = joined-same g mid holds.keeps count in
-    let same_length : length (joined mid.kept mid.least count) ≡ length (joined_there g.places count) = ap length same in
-    let Q : Gathering → Type 0 = λ s. Holds before g' packets' s × (s.least ≡ mid.least + count) in
-    elim (cases_lt (g.mrru + 2) (length (joined_there g.places count))) [
+    let same : joined mid.kept mid.least count ≡ joined_there g.places.pieces count = joined-same g mid holds.keeps count in
+    let same_length : length (joined mid.kept mid.least count) ≡ length (joined_there g.places.pieces count) = ap length same in
+    let Q : Gathering → Type 0 = λ s. Holds long_space before g' packets' s × (s.least ≡ mid.least + count) in
+    elim (cases_lt (g.mrru + 2) (length (joined_there g.places.pieces count))) [
       | inl long ↦
           let now = completed.long long in
           let s' : Gathering = record mid { least = mid.least + count; too_long = mid.too_long + 1 } in
@@ -159,7 +175,7 @@ completes_holds before g g' packets packets' mid count holds moved completed =
           let all : Q s' = (
             record {
               keeps = moves g g' mid s' count holds.keeps moved refl refl refl (now.1 ∙ holds.keeps.counts);
-              given = rw (holds.given, same, now.0) (append_assoc before packets (joined_there g.places count ∷ []));
+              given = rw (holds.given, same, now.0) (append_assoc before packets (joined_there g.places.pieces count ∷ []));
             },
             refl,
           ) in
@@ -175,7 +191,7 @@ some-completes true true k m count e = (cc, refl)
 some-completes true false k m count e = absurd (cc)
 some-completes false b k m count e = absurd (cc)
 
-completes-is : (bound len count : ℕ) (o : Option WaitingPiece) → rule_at bound len o ≡ Completes count → (count ≡ len + 1) × (ends o ≡ true)
+completes-is : (bound len count : ℕ) (o : Option SlotPiece) → rule_at bound len o ≡ Completes count → (count ≡ len + 1) × (ends o ≡ true)
 completes-is bound len count None e = absurd (none-completes (nat_lt len bound) (len + 1) count e)
 completes-is bound len count (Some p) e = some-completes (goes_on_there p len) p.last (len + 1) (max len 1) count e
 
@@ -189,66 +205,66 @@ some-loses true false k m count e = absurd (cc)
 some-loses false b k m count e = cc
 
 -- What is lost is below the bound, or a piece is there.
-loses-is : (bound len count : ℕ) (o : Option WaitingPiece) → rule_at bound len o ≡ Loses count → ((count ≡ len + 1) × (count ≤ bound)) ⊎ ((count ≡ max len 1) × (waits o ≡ true))
+loses-is : (bound len count : ℕ) (o : Option SlotPiece) → rule_at bound len o ≡ Loses count → ((count ≡ len + 1) × (count ≤ bound)) ⊎ ((count ≡ max len 1) × (waits o ≡ true))
 loses-is bound len count None e = let t = none-loses (nat_lt len bound) (len + 1) count e in inl (t.0, let is : nat_lt len bound ≡ true = t.1 in let c : count ≡ len + 1 = t.0 in let l : len < bound = grind (arith, nat_tests) in omega arith)
 loses-is bound len count (Some p) e = inr (some-loses (goes_on_there p len) p.last (len + 1) (max len 1) count e, refl)
 
 -- The piece that ends a run is one of the first.
-pub run-ends : (g : GatherFacts) (bound count : ℕ) → Scanned g.places bound (Completes count) → 1 ≤ tally ends g.places count
+pub run-ends : (g : GatherFacts) (bound count : ℕ) → Scanned g.places.pieces bound (Completes count) → 1 ≤ tally ends g.places.pieces count
 run-ends g bound count scanned =
-    let t = completes-is bound scanned.len count (place g.places scanned.len) scanned.is in
-    tally-one ends g.places scanned.len count (omega (arith, t.0)) t.1
+    let t = completes-is bound scanned.len count (place g.places.pieces scanned.len) scanned.is in
+    tally-one ends g.places.pieces scanned.len count (omega (arith, t.0)) t.1
 
-pub one-end : (g : GatherFacts) (bound count : ℕ) → Scanned g.places bound (Completes count) → ((i : ℕ) → 128 ≤ i → place g.places i ≡ None) → 1 ≤ tally ends g.places 128
+pub one-end : (g : GatherFacts) (bound count : ℕ) → Scanned g.places.pieces bound (Completes count) → ((i : ℕ) → 128 ≤ i → place g.places.pieces i ≡ None) → 1 ≤ tally ends g.places.pieces 128
 one-end g bound count scanned past =
-    let t = completes-is bound scanned.len count (place g.places scanned.len) scanned.is in
+    let t = completes-is bound scanned.len count (place g.places.pieces scanned.len) scanned.is in
     elim (cases_lt scanned.len 128) [
-      | inl below ↦ tally-one ends g.places scanned.len 128 below t.1
-      | inr out ↦ absurd (let e : ends (place g.places scanned.len) ≡ false = ap ends (past scanned.len out) in let f : ends (place g.places scanned.len) ≡ true = t.1 in cc)
+      | inl below ↦ tally-one ends g.places.pieces scanned.len 128 below t.1
+      | inr out ↦ absurd (let e : ends (place g.places.pieces scanned.len) ≡ false = ap ends (past scanned.len out) in let f : ends (place g.places.pieces scanned.len) ≡ true = t.1 in cc)
     ]
 
-first-waits : (g : GatherFacts) (bound : ℕ) (rule : RuleNow) (scanned : Scanned g.places bound rule) → waits (place g.places scanned.len) ≡ true → waits (place g.places 0) ≡ true
+first-waits : (g : GatherFacts) (bound : ℕ) (rule : RuleNow) (scanned : Scanned g.places.pieces bound rule) → waits (place g.places.pieces scanned.len) ≡ true → waits (place g.places.pieces 0) ≡ true
 first-waits g bound rule scanned is = elim (cases_lt 0 scanned.len) [
   | inl more ↦ let t = scanned.begun 0 more in ap waits t.1
   | inr none ↦ let e : scanned.len ≡ 0 = omega arith in rw e at is
 ]
 
-pub loses-fall : (g g' : GatherFacts) (bound bound' count : ℕ) → Scanned g.places bound (Loses count) → ((i : ℕ) → 128 ≤ i → place g.places i ≡ None) → IsMoved g g' count → bound' ≡ bound - count
-    → bound' + tally waits g'.places 128 < bound + tally waits g.places 128
+pub loses-fall : (g g' : GatherFacts) (bound bound' count : ℕ) → Scanned g.places.pieces bound (Loses count) → ((i : ℕ) → 128 ≤ i → place g.places.pieces i ≡ None) → IsMoved long_space g g' count → bound' ≡ bound - count
+    → bound' + tally waits g'.places.pieces 128 < bound + tally waits g.places.pieces 128
 loses-fall g g' bound bound' count scanned past moved less =
-    let left = tally-left waits g.places g'.places count refl moved.places past in
-    elim (loses-is bound scanned.len count (place g.places scanned.len) scanned.is) [
+    let left = tally-left waits g.places.pieces g'.places.pieces count refl moved.places past in
+    elim (loses-is bound scanned.len count (place g.places.pieces scanned.len) scanned.is) [
       | inl t ↦ omega (arith, t.0, t.1)
-      | inr t ↦ let one = tally-one waits g.places 0 count (omega (arith, t.0)) (first-waits g bound (Loses count) scanned t.1) in omega arith
+      | inr t ↦ let one = tally-one waits g.places.pieces 0 count (omega (arith, t.0)) (first-waits g bound (Loses count) scanned t.1) in omega arith
     ]
 
-ends-waits : (o : Option WaitingPiece) → ends o ≡ true → waits o ≡ true
+ends-waits : (o : Option SlotPiece) → ends o ≡ true → waits o ≡ true
 ends-waits None e = cc
 ends-waits (Some p) e = refl
 
-pub completes-fall : (g g' : GatherFacts) (bound bound' count : ℕ) → Scanned g.places bound (Completes count) → ((i : ℕ) → 128 ≤ i → place g.places i ≡ None) → IsMoved g g' count → bound' ≡ bound - count
-    → bound' + tally waits g'.places 128 < bound + tally waits g.places 128
+pub completes-fall : (g g' : GatherFacts) (bound bound' count : ℕ) → Scanned g.places.pieces bound (Completes count) → ((i : ℕ) → 128 ≤ i → place g.places.pieces i ≡ None) → IsMoved long_space g g' count → bound' ≡ bound - count
+    → bound' + tally waits g'.places.pieces 128 < bound + tally waits g.places.pieces 128
 completes-fall g g' bound bound' count scanned past moved less =
-    let left = tally-left waits g.places g'.places count refl moved.places past in
-    let t = completes-is bound scanned.len count (place g.places scanned.len) scanned.is in
-    let one = tally-one waits g.places 0 count (omega (arith, t.0)) (first-waits g bound (Completes count) scanned (ends-waits (place g.places scanned.len) t.1)) in
+    let left = tally-left waits g.places.pieces g'.places.pieces count refl moved.places past in
+    let t = completes-is bound scanned.len count (place g.places.pieces scanned.len) scanned.is in
+    let one = tally-one waits g.places.pieces 0 count (omega (arith, t.0)) (first-waits g bound (Completes count) scanned (ends-waits (place g.places.pieces scanned.len) t.1)) in
     omega arith
 
 packets-grow : (g g' : GatherFacts) (count : ℕ) (packets packets' : List (List ℕ)) → HasCompleted g g' count packets packets' → length packets' ≤ length packets + 1
 packets-grow g g' count packets packets' completed =
-    elim (cases_lt (g.mrru + 2) (length (joined_there g.places count))) [
+    elim (cases_lt (g.mrru + 2) (length (joined_there g.places.pieces count))) [
       | inl long ↦ let e = ap length (completed.long long).0 in omega arith
-      | inr fits ↦ let e = ap length (completed.fits fits).0 in omega (arith, length-append packets (joined_there g.places count ∷ []))
+      | inr fits ↦ let e = ap length (completed.fits fits).0 in omega (arith, length-append packets (joined_there g.places.pieces count ∷ []))
     ]
 
 pub settling_completes : (first : GatherFacts) (packets0 : List (List ℕ)) (bound0 : ℕ) (g : GatherFacts) (packets : List (List ℕ)) (bound : ℕ) (g' : GatherFacts) (packets' : List (List ℕ)) (count bound' : ℕ)
-    → Settling first packets0 bound0 g packets bound → Scanned g.places bound (Completes count) → ((i : ℕ) → 128 ≤ i → place g.places i ≡ None) → IsMoved g g' count
+    → Settling first packets0 bound0 g packets bound → Scanned g.places.pieces bound (Completes count) → ((i : ℕ) → 128 ≤ i → place g.places.pieces i ≡ None) → IsMoved long_space g g' count
     → HasCompleted g g' count packets packets' → bound' ≡ bound - count
     → Settling first packets0 bound0 g' packets' bound'
 settling_completes first packets0 bound0 g packets bound g' packets' count bound' so_far scanned past moved completed less = record {
   mrru = moved.mrru ∙ so_far.mrru;
   room =
-      let left = tally-left ends g.places g'.places count refl moved.places past in
+      let left = tally-left ends g.places.pieces g'.places.pieces count refl moved.places past in
       let one = run-ends g bound count scanned in
       let more = packets-grow g g' count packets packets' completed in
       omega (arith, so_far.room);
@@ -256,7 +272,7 @@ settling_completes first packets0 bound0 g packets bound g' packets' count bound
       let t = so_far.goes before s below holds is in
       let mid : Gathering = t.1 in
       let bound_is : bound ≡ below - mid.least = t.4 in
-      let keeps : KeepsNow g mid = t.3.keeps in
+      let keeps : KeepsNow long_space g mid = t.3.keeps in
       let rule : Rule g.mrru below mid (completes g.mrru mid count) = scanned_rule g.mrru below g mid (completes g.mrru mid count) bound (Completes count) keeps bound_is scanned refl in
       let after = completes_holds before g g' packets packets' mid count t.3 moved completed in
       let least : (completes g.mrru mid count).least ≡ mid.least + count = after.1 in
@@ -265,45 +281,47 @@ settling_completes first packets0 bound0 g packets bound g' packets' count bound
 }
 
 pub settling_ends : (first : GatherFacts) (packets0 : List (List ℕ)) (bound0 : ℕ) (g : GatherFacts) (packets : List (List ℕ)) (bound : ℕ)
-    → Settling first packets0 bound0 g packets bound → Scanned g.places bound Rests → HasSettled bound0 first g packets0 packets
+    → Settling first packets0 bound0 g packets bound → Scanned g.places.pieces bound Rests → HasSettled long_space bound0 first g packets0 packets
 settling_ends first packets0 bound0 g packets bound so_far scanned = λ before s below holds is.
     let t = so_far.goes before s below holds is in
     let P = λ (m : ℕ). AtRest m below t.1 in
     (t.1, record { count = t.0; rules = t.2; rest = subst P so_far.mrru (scanned_rests g.mrru below g t.1 bound t.3.keeps t.4 scanned) }, t.3)
 
-pub rests-empty : (g : GatherFacts) (bound : ℕ) → Scanned g.places bound Rests → ends (place g.places 0) ≡ false
+pub rests-empty : (g : GatherFacts) (bound : ℕ) → Scanned g.places.pieces bound Rests → ends (place g.places.pieces 0) ≡ false
 rests-empty g bound scanned = elim (cases_lt 0 scanned.len) [
   | inl more ↦ let t = scanned.begun 0 more in ap ends t.1 ∙ t.3
-  | inr none ↦ let e : scanned.len ≡ 0 = omega arith in let f : place g.places 0 ≡ None = rw (← e) (scanned.rests refl) in ap ends f
+  | inr none ↦ let e : scanned.len ≡ 0 = omega arith in let f : place g.places.pieces 0 ≡ None = rw (← e) (scanned.rests refl) in ap ends f
 ]
 
 smaller : (a b c : ℕ) → a + b ≤ c → 1 ≤ b → c ≤ 128 → a < 128
 smaller a b c h one most = omega arith
 
 pub room_for : (first : GatherFacts) (packets0 : List (List ℕ)) (bound0 : ℕ) (g : GatherFacts) (packets : List (List ℕ)) (bound : ℕ)
-    → Settling first packets0 bound0 g packets bound → 1 ≤ tally ends g.places 128 → length packets0 + tally ends first.places 128 ≤ 128 → length packets < 128
+    → Settling first packets0 bound0 g packets bound → 1 ≤ tally ends g.places.pieces 128 → length packets0 + tally ends first.places.pieces 128 ≤ 128 → length packets < 128
 room_for first packets0 bound0 g packets bound so_far one most = smaller _ _ _ so_far.room one most
 
 -- A call that begins at rest has room for what is given.
-fewer : (places : List (Option WaitingPiece)) → ends (place places 0) ≡ false → tally ends places 128 ≤ 127
+fewer : (places : List (Option SlotPiece)) → ends (place places 0) ≡ false → tally ends places 128 ≤ 127
 fewer places rest = tally-rest ends places 127 rest
 
 sum-first : (a b : ℕ) → a ≡ 0 → b ≤ 127 → a + b ≤ 128
 sum-first a b e h = omega arith
 
-pub room_first : (packets : List (List ℕ)) (places places2 : List (Option WaitingPiece)) → packets ≡ [] → places2 ≡ places → ends (place places 0) ≡ false → length packets + tally ends places2 128 ≤ 128
+pub room_first : (packets : List (List ℕ)) (places places2 : List (Option SlotPiece)) → packets ≡ [] → places2 ≡ places → ends (place places 0) ≡ false → length packets + tally ends places2 128 ≤ 128
 room_first packets places places2 none same rest =
     sum-first (length packets) (tally ends places2 128) (ap length none) (fewer places2 (ap (λ ps. ends (place ps 0)) same ∙ rest))
 
 sum-last : (a0 t2 a3 t3 t4 tf t5 : ℕ) → a0 ≡ 0 → t2 ≤ 127 → a3 + t3 ≤ a0 + t2 → t4 + tf ≡ t3 → t5 ≤ t4 + 1 → a3 + t5 ≤ 128
 sum-last a0 t2 a3 t3 t4 tf t5 e h2 h3 h4 h5 = omega arith
 
-pub room_last : (packets packets3 : List (List ℕ)) (places places2 places3 places4 places5 : List (Option WaitingPiece)) (far d : ℕ) (p : WaitingPiece)
+pub room_last : (packets packets3 : List (List ℕ)) (places places2 places3 places4 places5 : List (Option SlotPiece)) (far d : ℕ) (p : SlotPiece)
     → packets ≡ [] → places2 ≡ places → ends (place places 0) ≡ false
     → length packets3 + tally ends places3 128 ≤ length packets + tally ends places2 128
     → ((i : ℕ) → 128 ≤ i → place places3 i ≡ None) → ((i : ℕ) → place places4 i ≡ place places3 (i + far))
-    → ((j : ℕ) → place places5 j ≡ cond (nat_eq j d) (Some p) (place places4 j))
-    → length packets3 + tally ends places5 128 ≤ 128
+    → IsKept places4 places5 d p → length packets3 + tally ends places5 128 ≤ 128
 room_last packets packets3 places places2 places3 places4 places5 far d p none same rest room past moved put =
     sum-last (length packets) (tally ends places2 128) (length packets3) (tally ends places3 128) (tally ends places4 128) (tally ends places3 far) (tally ends places5 128)
-    (ap length none) (fewer places2 (ap (λ ps. ends (place ps 0)) same ∙ rest)) room (tally-left ends places3 places4 far refl moved past) (tally-put ends places4 places5 d 128 p put)
+    (ap length none) (fewer places2 (ap (λ ps. ends (place ps 0)) same ∙ rest)) room (tally-left ends places3 places4 far refl moved past) (tally-kept ends places4 places5 d 128 p put)
+
+pub less-same : (a b c d : ℕ) → a < b + c → c ≡ d → a < b + d
+less-same a b c d less same = omega arith

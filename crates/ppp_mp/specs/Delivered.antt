@@ -2,7 +2,7 @@
 -- is this project's own).
 use Rattle.std.specs.Prelude.{◌≡◌, ◌≢◌, ℕ, ◌+◌, ◌-◌, ◌%◌, ◌/◌, ◌<◌, ◌≤◌, ◌==◌, zero, suc, max, min, nat_lt, not, Bool, if◌then◌else◌, List, [], ◌∷◌, ◌++◌, length, Option, None, Some, IsSome, is_some, slice_index_or, slice_set, replicate, unwrap_or}
 use Rattle.std.specs.List.{fold}
-use Rattle.ppp_mp.specs.Whole.{Piece, piece_at, joined, Begun}
+use Rattle.ppp_mp.specs.Pieces.{Piece, piece_at, joined, Begun}
 use Rattle.ppp_mp.specs.declared.counts.PieceNow.{PieceNow}
 use Rattle.ppp_mp.specs.declared.counts.PieceNow.TheVariants.{Kept, Old, Doubled, Stranger, BadHeader}
 

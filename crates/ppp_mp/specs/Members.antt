@@ -3,10 +3,10 @@ use Rattle.std.specs.Prelude.{ℕ, ◌<◌, ◌≤◌, ⊤, List, [], ◌∷◌}
 use Rattle.std.specs.List.{fold}
 use Rattle.ppp_mp.specs.declared.members.MemberView.{MemberView}
 
--- Every link is above the one before it, the first above `low`, and each peer takes at least 128 octets.
+-- Every link is above the one before it, the first above `low`, and each peer takes 128 to 1,500 octets.
 abbrev pub AreMembers : (low : ℕ) → List MemberView → Type 0
 AreMembers low [] = ⊤
-AreMembers low (member ∷ members) = (low < member.link) × (member.link ≤ 16) × (128 ≤ member.mru) × AreMembers member.link members
+AreMembers low (member ∷ members) = (low < member.link) × (member.link ≤ 16) × (128 ≤ member.mru) × (member.mru ≤ 1500) × AreMembers member.link members
 
 -- the greatest link, `low` where there is none
 abbrev pub last_link : (low : ℕ) → List MemberView → ℕ

@@ -1,47 +1,53 @@
 -- What the single steps of a gatherer do to what it keeps.
-use Rattle.std.specs.Prelude.{◌≡◌, ℕ, ◌+◌, ◌-◌, ◌%◌, ◌≤◌, ◌<◌, List, [], ◌∷◌, ◌++◌, map, length, option_map}
+use Rattle.std.specs.Prelude.{◌≡◌, ℕ, ◌+◌, ◌-◌, ◌%◌, ◌≤◌, ◌<◌, List, [], ◌∷◌, ◌++◌, map, min, length, option_map, ◌≢◌, ◌==◌, Some, None, Option, if◌then◌else◌}
 use Rattle.ppp_mp.specs.Delivered.{Gathering, Fragment, Settles, TakesOf, mark}
-use Rattle.ppp_mp.specs.LongHeader.{long_space}
 use Rattle.ppp_mp.specs.Places.{place, joined_there}
 use Rattle.ppp_mp.specs.StandsFor.{KeepsNow, stopped}
-use Rattle.ppp_mp.specs.declared.places.WaitingPiece.{WaitingPiece}
+use Rattle.ppp_mp.specs.declared.slots.SlotPiece.{SlotPiece}
 use Rattle.ppp_mp.specs.declared.counts.PieceNow.{PieceNow}
 use Rattle.ppp_mp.specs.declared.facts.GatherFacts.{GatherFacts}
 
 -- So many numbers are settled.
-pub record IsMoved (old new : GatherFacts) (count : ℕ) : Type 0 where
+pub record IsMoved (space : ℕ) (old new : GatherFacts) (count : ℕ) : Type 0 where
   pub mrru : new.mrru ≡ old.mrru
-  pub base : new.base ≡ (old.base + count) % long_space
-  pub places : (i : ℕ) → place new.places i ≡ place old.places (i + count)
+  pub base : new.places.base ≡ (old.places.base + count) % space
+  pub places : (i : ℕ) → place new.places.pieces i ≡ place old.places.pieces (i + count)
+  pub end : new.places.end ≡ old.places.end - count
+  pub looks : new.places.looks ≤ old.places.looks + min count old.places.end
   pub overs : new.overs ≡ map (option_map (λ n. n - count)) old.overs
 
+-- A piece begins to wait at a place, where none does.
+pub record IsKept (old new : List (Option SlotPiece)) (i : ℕ) (piece : SlotPiece) : Type 0 where
+  pub empty : place old i ≡ None → (j : ℕ) → place new j ≡ (if j == i then Some piece else place old j)
+  pub taken : place old i ≢ None → (j : ℕ) → place new j ≡ place old j
+
 -- A gatherer keeps a gathering, and these packets are the last that it has given.
-pub record Holds (before : List (List ℕ)) (g : GatherFacts) (packets : List (List ℕ)) (s : Gathering) : Type 0 where
-  pub keeps : KeepsNow g s
+pub record Holds (space : ℕ) (before : List (List ℕ)) (g : GatherFacts) (packets : List (List ℕ)) (s : Gathering) : Type 0 where
+  pub keeps : KeepsNow space g s
   pub given : s.given ≡ before ++ packets
 
 -- A waiting piece as it arrived.
-abbrev pub arrived : (field : ℕ) → WaitingPiece → Fragment
+abbrev pub arrived : (field : ℕ) → SlotPiece → Fragment
 arrived field p = record { field = field; first = p.first; last = p.last; octets = p.octets }
 
 -- A member's piece has been taken, and these packets were given.
-abbrev pub HasTaken : (mrru : ℕ) (s : Gathering) (link : ℕ) → Fragment → PieceNow → GatherFacts → List (List ℕ) → Type 0
-HasTaken mrru s link fragment answer g packets =
-    (new : Gathering) × TakesOf long_space mrru s link fragment answer new × KeepsNow g new × (new.given ≡ s.given ++ packets)
+abbrev pub HasTaken : (space mrru : ℕ) (s : Gathering) (link : ℕ) → Fragment → PieceNow → GatherFacts → List (List ℕ) → Type 0
+HasTaken space mrru s link fragment answer g packets =
+    (new : Gathering) × TakesOf space mrru s link fragment answer new × KeepsNow space g new × (new.given ≡ s.given ++ packets)
 
 -- The rules are applied with M as it is.
-abbrev pub HasSettledNow : (old new : GatherFacts) (packets packets' : List (List ℕ)) → Type 0
-HasSettledNow old new packets packets' =
-    (before : List (List ℕ)) (s : Gathering) → Holds before old packets s
-    → (s' : Gathering) × Settles old.mrru (mark s) s s' × Holds before new packets' s'
+abbrev pub HasSettledNow : (space : ℕ) (old new : GatherFacts) (packets packets' : List (List ℕ)) → Type 0
+HasSettledNow space old new packets packets' =
+    (before : List (List ℕ)) (s : Gathering) → Holds space before old packets s
+    → (s' : Gathering) × Settles old.mrru (mark s) s s' × Holds space before new packets' s'
 
 -- The rules are applied until none does.
-abbrev pub HasSettled : (bound : ℕ) (old new : GatherFacts) (packets packets' : List (List ℕ)) → Type 0
-HasSettled bound old new packets packets' =
-    (before : List (List ℕ)) (s : Gathering) (below : ℕ) → Holds before old packets s → bound ≡ below - s.least
-    → (s' : Gathering) × Settles old.mrru below s s' × Holds before new packets' s'
+abbrev pub HasSettled : (space bound : ℕ) (old new : GatherFacts) (packets packets' : List (List ℕ)) → Type 0
+HasSettled space bound old new packets packets' =
+    (before : List (List ℕ)) (s : Gathering) (below : ℕ) → Holds space before old packets s → bound ≡ below - s.least
+    → (s' : Gathering) × Settles old.mrru below s s' × Holds space before new packets' s'
 
 -- So many pieces from the first place on are given as a packet, or counted as too long.
 pub record HasCompleted (old new : GatherFacts) (count : ℕ) (packets packets' : List (List ℕ)) : Type 0 where
-  pub long : old.mrru + 2 < length (joined_there old.places count) → (packets' ≡ packets) × (new.counts ≡ record old.counts { too_long = stopped (old.counts.too_long + 1) })
-  pub fits : length (joined_there old.places count) ≤ old.mrru + 2 → (packets' ≡ packets ++ joined_there old.places count ∷ []) × (new.counts ≡ old.counts)
+  pub long : old.mrru + 2 < length (joined_there old.places.pieces count) → (packets' ≡ packets) × (new.counts ≡ record old.counts { too_long = stopped (old.counts.too_long + 1) })
+  pub fits : length (joined_there old.places.pieces count) ≤ old.mrru + 2 → (packets' ≡ packets ++ joined_there old.places.pieces count ∷ []) × (new.counts ≡ old.counts)

@@ -1,9 +1,11 @@
 ghost use Rattle.std.specs.Prelude.{◌≡◌, ◌+◌, ◌<◌, ◌≤◌, ◌==◌, ◌%◌, [], ◌∷◌, ◌++◌, length, option_map, slice_get, IsSome, ◌↔◌, IfSome};
-ghost use Rattle.ppp_mp.specs.LongHeader.{long_header, long_space};
+ghost use Rattle.ppp_base.specs.declared.octets.TheConstants.{MOST_FRAME};
+ghost use Rattle.ppp_mp.specs.Header.{header_of, long_octets, long_space};
+ghost use Rattle.ppp_mp.specs.Schedule.{SentPiece, sent_of, information_of, FitsFrame};
 
 use crate::numbers::number_after;
 use arrayvec::ArrayVec;
-use ppp_base::LinkId;
+use ppp_base::{Frame, LinkId, MOST_FRAME};
 use std::marker::Model;
 
 /// A piece of a packet: the place of its first octet in the packet, how many octets it has, and the member that it
@@ -81,7 +83,7 @@ impl Cuts {
     /// the first, E at the last. None exactly at the count or above.
     pub fn header(&self, at: u8, number: u32) -> Option<[u8; 4]>
         ensures some { IsSome result ↔ (at < length self.now) }
-        ensures header { IfSome result (λ octets. octets ≡ long_header (at == 0) (at + 1 == length self.now) ((number + at) % long_space)) }
+        ensures header { IfSome result (λ octets. octets ≡ header_of long_octets (at == 0) (at + 1 == length self.now) ((number + at) % long_space)) }
     {
         let count = self.count();
         if count <= at {
@@ -92,6 +94,27 @@ impl Cuts {
             at + 1 == count,
             number_after(number, u32::from(at)),
         ))
+    }
+
+    /// The information of the piece at this place, where the first piece has this number: its long header, and its octets
+    /// of the packet. None exactly at the count or above, where the packet ends before the piece does, and where the
+    /// piece and its header don't fit a frame; of a cut of this packet each piece fits.
+    pub fn information(&self, at: u8, number: u32, packet: &[u8]) -> Option<Frame>
+        ensures some { IsSome result ↔ FitsFrame long_octets MOST_FRAME packet.now (slice_get self.now at) }
+        ensures information { IfSome result (λ frame. (piece : SentPiece) → slice_get (sent_of packet.now (length self.now) 0 self.now) at ≡ Some piece
+            → frame ≡ information_of long_space long_octets (number + at) piece) }
+    {
+        let piece = self.get(at)?;
+        let header = self.header(at, number)?;
+        let begin = usize::from(piece.place);
+        let octets = packet.get(begin..begin + usize::from(piece.len))?;
+        if MOST_FRAME < 4 + octets.len() {
+            return None;
+        }
+        let mut information = Frame::new();
+        information.append(&header);
+        information.append(octets);
+        Some(information)
     }
 }
 
@@ -114,7 +137,7 @@ impl From<Cuts> for ArrayVec<CutPiece, 17> {
 // B, E and a number of three octets.
 fn long_header(first: bool, last: bool, number: u32) -> [u8; 4]
     requires { number < long_space }
-    ensures { result ≡ long_header first last number }
+    ensures { result ≡ header_of long_octets first last number }
 {
     let begins = if first { 128 } else { 0 };
     let ends = if last { 64 } else { 0 };

@@ -1,5 +1,6 @@
 ghost use Rattle.std.specs.Prelude.{◌≡◌, ℕ, ◌+◌, ◌-◌, ◌*◌, ◌/◌, ◌<◌, ◌≤◌, length};
 ghost use Rattle.ppp_mp.specs.Cut.{Cut, share, least_mru, piece_size};
+ghost use Rattle.ppp_mp.specs.Header.{long_octets};
 ghost use Rattle.ppp_mp.specs.Members.{AreMembers};
 
 use crate::cuts::{CutPiece, Cuts};
@@ -11,7 +12,7 @@ pub fn cut(len: u16, members: &Members, turn: u8) -> Cuts
     requires some { 0 < len }
     requires within { len ≤ 2050 }
     requires members { 0 < length members.now }
-    ensures { Cut len members.now turn result }
+    ensures { Cut long_octets len members.now turn result }
 {
     let members = members.as_slice();
     let size = piece_size(len, members);
@@ -36,7 +37,7 @@ fn piece_size(len: u16, members: &[MemberView]) -> u16
     requires members { 0 < length members.now }
     requires few { length members.now ≤ 16 }
     requires lawful { AreMembers 0 members.now }
-    ensures size { result ≡ piece_size len members.now }
+    ensures size { result ≡ piece_size long_octets len members.now }
     ensures some { 0 < result }
     ensures within { result ≤ len }
     ensures reaches { len ≤ 17 * result }

@@ -1,19 +1,16 @@
 ghost use Rattle.ppp_base.specs.declared.mrru.TheConstants.{MOST_MRRU};
-ghost use Rattle.std.specs.Prelude.{◌<◌, ◌≤◌};
+ghost use Rattle.std.specs.Prelude.{◌≤◌};
 
 use crate::counts::GatherCounts;
 use crate::places::Places;
 
-// What a gatherer keeps. All its numbers but the base are counted from the least number that isn't settled.
+// What a gatherer keeps. All its numbers but the base of the places are counted from the least number that isn't settled.
 #[derive(Drop)]
 pub(crate) struct GatherFacts {
     pub(crate) mrru: u16,
-    // The least number that isn't settled, modulo the number space.
-    pub(crate) base: u32,
     pub(crate) places: Places,
     // For each link how far beyond the least number it has brought pieces, where it is a member.
     pub(crate) overs: [Option<u32>; 16],
     pub(crate) counts: GatherCounts,
-    ghost ranged: { base < 16777216 },
     ghost lawful: { mrru ≤ MOST_MRRU },
 }

@@ -1,16 +1,17 @@
 ghost use Rattle.ppp_base.specs.declared.mrru.TheConstants.{LEAST_MRRU, MOST_MRRU};
 ghost use Rattle.ppp_base.specs.declared.octets.TheConstants.{MOST_FRAME};
-ghost use Rattle.std.specs.Prelude.{◌≡◌, ◌≢◌, ℕ, ◌+◌, ◌*◌, ◌<◌, ◌≤◌, ◌↔◌, ◌⊎◌, List, [], length, IfOk, IsSome, IfSome};
+ghost use Rattle.std.specs.Prelude.{◌≡◌, ◌≢◌, ℕ, ◌+◌, ◌*◌, ◌<◌, ◌≤◌, ◌↔◌, ◌⊎◌, ◌-◌, List, [], length, true, false, replicate, slice_set, IfOk, IsSome, IfSome};
 ghost use Rattle.ppp_mp.specs.Delivered.{Entry, Joins, Leaves, Gathering, nothing};
-ghost use Rattle.ppp_mp.specs.LongHeader.{fragment_of, long_space};
+ghost use Rattle.ppp_mp.specs.Header.{fragment_of, long_octets, long_space};
 ghost use Rattle.ppp_mp.specs.Moves.{arrived};
-ghost use Rattle.ppp_mp.specs.Whole.{AreInOrder};
-ghost use Rattle.ppp_mp.specs.StandsFor.{StandsFor, Adds, AddsPiece, IsJoined, counted};
+ghost use Rattle.ppp_mp.specs.Pieces.{AreInOrder};
+ghost use Rattle.ppp_mp.specs.StandsFor.{StandsFor, Adds, AddsPiece, IsJoined, members_of, with_looks, counted};
 
 use crate::counts::{GatherCounts, PieceNow};
 use crate::facts::GatherFacts;
 use crate::given::Given;
-use crate::places::{Places, WaitingPiece};
+use crate::places::Places;
+use crate::slots::SlotPiece;
 use ppp_base::{Frame, LinkId, NoMemory};
 use std::alloc::Global;
 use std::marker::Model;
@@ -33,7 +34,7 @@ impl Model for Gather {
 
     ghost view = { λ g. g.facts };
 
-    ghost invariant = { λ g. ends (place g.facts.places 0) ≡ false };
+    ghost invariant = { λ g. ends (place g.facts.places.pieces 0) ≡ false };
 }
 
 impl Gather {
@@ -41,14 +42,14 @@ impl Gather {
     /// is taken here.
     pub fn new(alloc: Global, mrru: u16) -> Result<Gather, NoMemory>
         requires { (LEAST_MRRU ≤ mrru) × (mrru ≤ MOST_MRRU) }
-        ensures stands { IfOk result (λ g. StandsFor g [] (nothing long_space)) }
+        ensures stands { IfOk result (λ g. StandsFor long_space g [] (nothing long_space)) }
         ensures mrru { IfOk result (λ g. g.mrru ≡ mrru) }
+        ensures members { IfOk result (λ g. members_of g ≡ replicate 16 false) }
     {
         match Places::new(alloc) {
             Ok(places) => Ok(Gather {
                 facts: GatherFacts {
                     mrru,
-                    base: 0,
                     places,
                     overs: [None; 16],
                     counts: no_counts(),
@@ -61,12 +62,12 @@ impl Gather {
     /// Forgets members, pieces and counts, takes this MRRU as ours, and expects number 0.
     pub fn restart(&mut self, mrru: u16)
         requires { (LEAST_MRRU ≤ mrru) × (mrru ≤ MOST_MRRU) }
-        ensures stands { StandsFor self.new [] (nothing long_space) }
+        ensures stands { StandsFor long_space self.new [] (nothing long_space) }
         ensures mrru { self.new.mrru ≡ mrru }
+        ensures members { members_of self.new ≡ replicate 16 false }
     {
         self.facts.mrru = mrru;
-        self.facts.base = 0;
-        self.facts.places.clear();
+        self.facts.places.restart();
         self.facts.overs = [None; 16];
         self.facts.counts = no_counts();
     }
@@ -75,8 +76,9 @@ impl Gather {
     /// is.
     pub fn join(&mut self, link: LinkId)
         ensures mrru { self.new.mrru ≡ self.old.mrru }
+        ensures members { members_of self.new ≡ slice_set (members_of self.old) (link - 1) true }
         ensures same { IsJoined self.old link → self.new ≡ self.old }
-        ensures stands { (past : List Entry) (s : Gathering) → StandsFor self.old past s → Adds self.new past s (Joins link) [] }
+        ensures stands { (past : List Entry) (s : Gathering) → StandsFor long_space self.old past s → Adds long_space self.new past s (Joins link) [] }
     {
         let at = usize::from(link.number() - 1);
         if !self.facts.is_member(at) {
@@ -87,11 +89,14 @@ impl Gather {
     /// A link leaves, which may let packets through that waited for it. Where it is no member, nothing changes.
     pub fn leave(&mut self, link: LinkId, given: &mut Given)
         ensures mrru { self.new.mrru ≡ self.old.mrru }
-        ensures same { ¬ (IsJoined self.old link) → (self.new ≡ self.old) × (given.new ≡ []) }
-        ensures stands { (past : List Entry) (s : Gathering) → StandsFor self.old past s → Adds self.new past s (Leaves link) given.new }
-        ensures whole { (past : List Entry) (s : Gathering) → StandsFor self.new past s → AreInOrder s.kept 0 s.least s.given }
+        ensures members { members_of self.new ≡ slice_set (members_of self.old) (link - 1) false }
+        ensures same { ¬ (IsJoined self.old link) → (self.new ≡ with_looks 0 self.old) × (given.new ≡ []) }
+        ensures looks { self.new.places.looks ≤ 1024 }
+        ensures stands { (past : List Entry) (s : Gathering) → StandsFor long_space self.old past s → Adds long_space self.new past s (Leaves link) given.new }
+        ensures whole { (past : List Entry) (s : Gathering) → StandsFor long_space self.new past s → AreInOrder s.kept 0 s.least s.given }
     {
         given.clear();
+        self.facts.reset();
         let at = usize::from(link.number() - 1);
         if self.facts.is_member(at) {
             self.facts.drop_out(at);
@@ -104,14 +109,17 @@ impl Gather {
     pub fn piece(&mut self, from: LinkId, information: &[u8], given: &mut Given) -> PieceNow
         requires { length information.now ≤ MOST_FRAME }
         ensures mrru { self.new.mrru ≡ self.old.mrru }
+        ensures members { members_of self.new ≡ members_of self.old }
         ensures stranger { (result ≡ PieceNow.Stranger) ↔ ¬ (IsJoined self.old from) }
         ensures bad_header { (result ≡ PieceNow.BadHeader) ↔ (IsJoined self.old from × (length information.now < 4)) }
-        ensures refused { (result ≡ PieceNow.Stranger) ⊎ (result ≡ PieceNow.BadHeader) → (self.new ≡ self.old) × (given.new ≡ []) }
-        ensures stands { (past : List Entry) (s : Gathering) → StandsFor self.old past s → 4 ≤ length information.now
-            → AddsPiece self.new past s from (fragment_of information.now) result given.new }
-        ensures whole { (past : List Entry) (s : Gathering) → StandsFor self.new past s → AreInOrder s.kept 0 s.least s.given }
+        ensures refused { (result ≡ PieceNow.Stranger) ⊎ (result ≡ PieceNow.BadHeader) → (self.new ≡ with_looks 0 self.old) × (given.new ≡ []) }
+        ensures looks { self.new.places.looks ≤ 1024 }
+        ensures stands { (past : List Entry) (s : Gathering) → StandsFor long_space self.old past s → 4 ≤ length information.now
+            → AddsPiece long_space self.new past s from (fragment_of long_space long_octets information.now) result given.new }
+        ensures whole { (past : List Entry) (s : Gathering) → StandsFor long_space self.new past s → AreInOrder s.kept 0 s.least s.given }
     {
         given.clear();
+        self.facts.reset();
         let at = usize::from(from.number() - 1);
         if !self.facts.is_member(at) {
             return PieceNow::Stranger;
@@ -122,10 +130,17 @@ impl Gather {
         }
     }
 
+    /// How often a slot was looked at in the last `piece` or `leave`: at most 1,024 times, however far a number jumps.
+    pub fn looks(&self) -> u32
+        ensures { result ≡ self.now.places.looks }
+    {
+        self.facts.places.looks()
+    }
+
     /// What was thrown away since the gatherer was made or restarted.
     pub fn counts(&self) -> GatherCounts
         ensures value { result ≡ self.now.counts }
-        ensures delivered { (past : List Entry) (s : Gathering) → StandsFor self.now past s → result ≡ counted s }
+        ensures delivered { (past : List Entry) (s : Gathering) → StandsFor long_space self.now past s → result ≡ counted s }
     {
         self.facts.counts
     }
@@ -144,18 +159,19 @@ fn no_counts() -> GatherCounts
 }
 
 // The number of a piece and what stands behind its header. None under four octets.
-fn fragment_of(information: &[u8]) -> Option<(u32, WaitingPiece)>
+fn fragment_of(information: &[u8]) -> Option<(u32, SlotPiece)>
     requires { length information.now ≤ MOST_FRAME }
     ensures some { IsSome result ↔ (4 ≤ length information.now) }
     ensures field { IfSome result (λ found. found.0 < long_space) }
-    ensures is { IfSome result (λ found. fragment_of information.now ≡ arrived found.0 found.1) }
+    ensures is { IfSome result (λ found. fragment_of long_space long_octets information.now ≡ arrived found.0 found.1) }
 {
     let [control, high, middle, low, octets @ ..] = information else {
         return None;
     };
-    let piece = WaitingPiece {
+    let piece = SlotPiece {
         first: *control > 127,
         last: *control / 64 % 2 == 1,
+        len: octets.len() as u16,
         octets: Frame::from_octets(octets)?,
     };
     let field = u32::from(*high) * 65536 + u32::from(*middle) * 256 + u32::from(*low);

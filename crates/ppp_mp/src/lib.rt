@@ -4,10 +4,12 @@
 //! - `cut` says which octets of a packet go to which member, and `Sending` numbers the pieces of one bundle.
 //! - `Gather` takes the pieces in whatever order they come, and gives whole packets in the order of their numbers, never
 //!   one over a missing piece and none twice.
-//! - `laws` has what is true of the definitions: each packet is whole, and every history delivers one thing.
+//! - `Slots` is where pieces wait: a ring of 128.
+//! - `laws` has what is true of the definitions: each packet is whole, every history delivers one thing, and from end to
+//!   end what is given is a subsequence of what was sent.
 //!
-//! How a packet is cut stands in `specs/Cut.antt`, and which packets are given in `specs/Delivered.antt`, over the whole
-//! list of pieces, joins and leaves. No call but `Gather::new` and `Given::new` takes memory.
+//! How a packet is cut stands in `specs/Cut.antt`, which packets are given in `specs/Delivered.antt`, over the whole list
+//! of pieces, joins and leaves, and both ends together in `specs/Schedule.antt`. No call but `Gather::new` and `Given::new` takes memory.
 #![tactic(auto)]
 
 mod counts;
@@ -23,6 +25,7 @@ mod packet;
 mod places;
 mod sending;
 mod settling;
+mod slots;
 #[cfg(test)]
 mod tests;
 
@@ -34,3 +37,4 @@ pub use given::Given;
 pub use members::{MemberView, Members};
 pub use packet::MOST_PACKET;
 pub use sending::Sending;
+pub use slots::{SlotPiece, SlotView, Slots};

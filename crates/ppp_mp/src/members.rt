@@ -1,9 +1,10 @@
 ghost use Rattle.std.specs.Prelude.{◌≡◌, ◌+◌, ◌<◌, ◌≤◌, ◌↔◌, [], ◌∷◌, ◌++◌, length, IsTrue, IsSome, IfSome};
+ghost use Rattle.ppp_base.specs.declared.mrru.TheConstants.{LEAST_MRU, DEFAULT_MRU};
 ghost use Rattle.std.specs.Bool.{OnTrue, OnFalse};
 ghost use Rattle.ppp_mp.specs.Members.{AreMembers, last_link};
 
 use arrayvec::ArrayVec;
-use ppp_base::{LEAST_MRU, LinkId};
+use ppp_base::{DEFAULT_MRU, LEAST_MRU, LinkId};
 use std::marker::Model;
 
 /// A member of a bundle: its link, and the most octets of an information that its peer takes.
@@ -52,7 +53,7 @@ impl Members {
         }
     }
 
-    /// These members. None where a link isn't above the one before it, or a peer takes fewer than 128 octets.
+    /// These members. None where a link isn't above the one before it, or a peer doesn't take 128 to 1,500 octets.
     pub fn from_views(views: ArrayVec<MemberView, 16>) -> Option<Members>
         ensures lawful { IsSome result ↔ AreMembers 0 views.items }
         ensures value { IfSome result (λ members. members ≡ views.items) }
@@ -64,14 +65,14 @@ impl Members {
         }
     }
 
-    /// Adds a member at the end. False, and nothing changes, where its link isn't above all others or its peer takes
-    /// fewer than 128 octets.
+    /// Adds a member at the end. False, and nothing changes, where its link isn't above all others or its peer doesn't
+    /// take 128 to 1,500 octets.
     pub fn add(&mut self, member: MemberView) -> bool
-        ensures fits { IsTrue result ↔ ((last_link 0 self.old < member.link) × (LEAST_MRU ≤ member.mru)) }
+        ensures fits { IsTrue result ↔ ((last_link 0 self.old < member.link) × (LEAST_MRU ≤ member.mru) × (member.mru ≤ DEFAULT_MRU)) }
         ensures added { OnTrue result (self.new ≡ self.old ++ member ∷ []) }
         ensures unchanged { OnFalse result (self.new ≡ self.old) }
     {
-        if member.link.number() <= last_link(self.members.as_slice()) || member.mru < LEAST_MRU {
+        if member.link.number() <= last_link(self.members.as_slice()) || !is_lawful(member.mru) {
             return false;
         }
         self.members.push(member);
@@ -111,7 +112,7 @@ impl From<Members> for ArrayVec<MemberView, 16> {
     }
 }
 
-// Whether every link is above the one before it, and each peer takes at least 128 octets.
+// Whether every link is above the one before it, and each peer takes 128 to 1,500 octets.
 fn are_members(views: &[MemberView]) -> bool
     ensures { IsTrue result ↔ AreMembers 0 views.now }
 {
@@ -119,13 +120,20 @@ fn are_members(views: &[MemberView]) -> bool
     let mut low = 0;
     while let [view, rest @ ..] = left {
         let link = view.link.number();
-        if link <= low || view.mru < LEAST_MRU {
+        if link <= low || !is_lawful(view.mru) {
             return false;
         }
         low = link;
         left = rest;
     }
     true
+}
+
+// Whether a peer takes 128 to 1,500 octets.
+fn is_lawful(mru: u16) -> bool
+    ensures { IsTrue result ↔ ((LEAST_MRU ≤ mru) × (mru ≤ DEFAULT_MRU)) }
+{
+    (LEAST_MRU..=DEFAULT_MRU).contains(&mru)
 }
 
 // The greatest link, 0 where there is none.

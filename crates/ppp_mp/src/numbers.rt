@@ -1,5 +1,5 @@
 ghost use Rattle.std.specs.Prelude.{◌≡◌, ◌+◌, ◌%◌, ◌<◌};
-ghost use Rattle.ppp_mp.specs.LongHeader.{long_space};
+ghost use Rattle.ppp_mp.specs.Header.{long_space};
 
 // How many numbers there are before they begin anew.
 const SPACE: u32 = 16_777_216;

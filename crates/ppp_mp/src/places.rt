@@ -1,20 +1,17 @@
-ghost use Rattle.std.specs.Prelude.{◌≡◌, ℕ, ◌+◌, ◌<◌, ◌≤◌, ◌==◌, List, [], ◌∷◌, ◌++◌, length, IfOk, option_map, None, Some, if◌then◌else◌, vec_capacity, vec_len, nat_lt, drop};
-ghost use Rattle.ppp_mp.specs.Places.{place, Found, AreMissing, BegunThere, joined_there};
+ghost use Rattle.std.specs.Prelude.{◌≡◌, ℕ, ◌+◌, ◌-◌, ◌%◌, ◌<◌, ◌≤◌, ◌==◌, ◌⊎◌, ◌++◌, length, max, min, true, false, IfOk, is_some, option_map, None, Some, if◌then◌else◌, nat_lt};
+ghost use Rattle.ppp_mp.specs.Header.{long_space};
+ghost use Rattle.ppp_mp.specs.Places.{place, Found, AreMissing, BegunThere, joined_there, HasLooked, HasMissed, HasShifted};
+ghost use Rattle.ppp_mp.specs.Ring.{view_of};
 
+use crate::numbers::number_after;
 use crate::packet::Packet;
-use ppp_base::{Frame, NoMemory};
+use crate::slots::{SlotPiece, SlotView, Slots};
+use ppp_base::NoMemory;
 use std::alloc::Global;
 use std::marker::Model;
 
-const PLACES: usize = 128;
-
-// A piece that waits.
-#[derive(Debug, Drop)]
-pub(crate) struct WaitingPiece {
-    pub(crate) first: bool,
-    pub(crate) last: bool,
-    pub(crate) octets: Frame,
-}
+/// How many numbers pieces may wait for, from the least on that isn't settled.
+const PLACES: u32 = 128;
 
 // Which rule applies to the first places.
 #[derive(Clone, Copy, Debug, PartialEq, Eq)]
@@ -29,53 +26,113 @@ pub(crate) enum RuleNow {
     Completes(u32),
 }
 
-// The places of up to 128 numbers from the least on that isn't settled, each with its piece where one waits. Places
-// beyond the end are empty.
+// The places of 128 numbers from the least on that isn't settled, each with its piece where one waits, in slots.
 #[derive(Drop)]
 pub(crate) struct Places {
-    places: Vec<Option<WaitingPiece>>,
+    // The least number that isn't settled, modulo the number space.
+    base: u32,
+    slots: Slots,
+    // No piece waits below this place.
+    gap: u32,
+    // No piece waits at this place or behind it.
+    end: u32,
 }
 
 impl Model for Places {
-    ghost use Rattle.std.specs.Prelude.{List, Option, ℕ, length, ◌≤◌, vec_capacity};
-    ghost use Rattle.ppp_mp.specs.declared.places.WaitingPiece.{WaitingPiece};
+    ghost use Rattle.ppp_mp.specs.Header.{long_space};
+    ghost use Rattle.ppp_mp.specs.Places.{PlacesNow, pieces_from, IsWindow};
 
-    ghost Value = { List (Option WaitingPiece) };
+    ghost Value = { PlacesNow };
 
-    ghost view = { λ p. p.places.items };
+    ghost view = { λ p. record { base = p.base; pieces = pieces_from long_space p.base p.slots.slots; looks = p.slots.looks; end = p.end } };
 
-    ghost invariant = { λ p. (128 ≤ vec_capacity p.places) × (length p.places.items ≤ 128) };
+    ghost invariant = { λ p. IsWindow long_space p.base p.gap p.end p.slots.slots };
 }
 
 impl Places {
-    // No piece waits. All room is taken here.
+    // No piece waits, and number 0 is expected. All room is taken here.
     pub(crate) fn new(alloc: Global) -> Result<Places, NoMemory>
-        ensures { IfOk result (λ p. p ≡ []) }
+        ensures base { IfOk result (λ p. p.base ≡ 0) }
+        ensures pieces { IfOk result (λ p. (i : ℕ) → place p.pieces i ≡ None) }
     {
-        match Vec::with_capacity(alloc, PLACES) {
-            Ok(places) => Ok(Places { places }),
-            Err(_) => Err(NoMemory),
-        }
+        let slots = Slots::new(alloc)?;
+        Ok(Places {
+            base: 0,
+            slots,
+            gap: 0,
+            end: 0,
+        })
     }
 
-    // The piece at this place.
-    pub(crate) fn at(&self, i: u32) -> Option<&WaitingPiece>
-        ensures { option_map (λ p. p.now) result ≡ place self.now i }
+    // No piece waits, and number 0 is expected.
+    pub(crate) fn restart(&mut self)
+        ensures base { self.new.base ≡ 0 }
+        ensures pieces { (i : ℕ) → place self.new.pieces i ≡ None }
     {
-        match self.places.as_slice().get(i as usize) {
-            Some(Some(piece)) => Some(piece),
-            Some(None) => None,
-            None => None,
-        }
+        let _base = self.base;
+        self.lose(PLACES);
+        self.base = 0;
+        self.gap = 0;
+        self.end = 0;
+        self.slots.reset();
+    }
+
+    // The least number that isn't settled, modulo the number space.
+    pub(crate) fn base(&self) -> u32
+        ensures value { result ≡ self.now.base }
+        ensures within { result < long_space }
+        ensures end { self.now.end ≤ 128 }
+    {
+        self.base
+    }
+
+    // How often a slot was looked at since `reset`.
+    pub(crate) fn looks(&self) -> u32
+        ensures { result ≡ self.now.looks }
+    {
+        self.slots.looks()
+    }
+
+    // The looks are counted from 0 on again.
+    pub(crate) fn reset(&mut self)
+        ensures now { self.new ≡ record self.old { looks = 0 } }
+        ensures end { self.old.end ≤ 128 }
+    {
+        self.slots.reset();
+    }
+
+    // Whether a piece waits at this place.
+    pub(crate) fn waits(&mut self, i: u32) -> bool
+        ensures waits { result ≡ is_some (place self.old.pieces i) }
+        ensures same { self.new ≡ record self.old { looks = self.new.looks } }
+        ensures looks { self.new.looks ≤ self.old.looks + 1 }
+    {
+        let _base = self.base;
+        i < PLACES && self.at(i).is_some()
+    }
+
+    // What is seen of the piece at this place.
+    fn at(&mut self, i: u32) -> Option<SlotView>
+        requires { i < 128 }
+        ensures view { result ≡ option_map view_of (place self.old.pieces i) }
+        ensures same { self.new ≡ record self.old { looks = self.new.looks } }
+        ensures looks { self.new.looks ≤ self.old.looks + 1 }
+    {
+        self.slots.at(number_after(self.base, i))
     }
 
     // The rule that applies, with every missing number below the bound to be lost.
-    pub(crate) fn scan(&self, bound: u32) -> RuleNow
-        ensures found { Found self.now bound result }
-        ensures past { (i : ℕ) → 128 ≤ i → place self.now i ≡ None }
+    pub(crate) fn scan(&mut self, bound: u32) -> RuleNow
+        ensures found { Found self.old.pieces bound result }
+        ensures past { (i : ℕ) → 128 ≤ i → place self.old.pieces i ≡ None }
+        ensures same { self.new ≡ record self.old { looks = self.new.looks } }
+        ensures looks { HasLooked self.old self.new result }
     {
-        let _places = &self.places;
-        for len in 0..128u32 {
+        if 0 < self.gap {
+            return self.missing(0, bound);
+        }
+        let end = self.end;
+        for len in 0..end {
             match self.at(len) {
                 None => return self.missing(len, bound),
                 Some(piece) => {
@@ -88,15 +145,17 @@ impl Places {
                 }
             }
         }
-        self.missing(128, bound)
+        self.missing(end, bound)
     }
 
     // The rule for a missing number behind so many pieces that begin a packet.
-    fn missing(&self, len: u32, bound: u32) -> RuleNow
+    fn missing(&mut self, len: u32, bound: u32) -> RuleNow
         requires within { len < 129 }
-        requires begun { BegunThere self.now len }
-        requires none { place self.now len ≡ None }
-        ensures { Found self.now bound result }
+        requires begun { BegunThere self.old.pieces len }
+        requires none { place self.old.pieces len ≡ None }
+        ensures found { Found self.old.pieces bound result }
+        ensures same { self.new ≡ record self.old { looks = self.new.looks } }
+        ensures looks { HasMissed self.old self.new len result }
     {
         if bound <= len {
             return RuleNow::Rests;
@@ -108,84 +167,114 @@ impl Places {
     }
 
     // How many numbers from the least on are missing, at most as many as are below the bound.
-    fn stretch(&self, bound: u32) -> u32
+    fn stretch(&mut self, bound: u32) -> u32
         requires some { 0 < bound }
-        requires none { place self.now 0 ≡ None }
-        ensures { AreMissing self.now bound result }
+        requires none { place self.old.pieces 0 ≡ None }
+        ensures missing { AreMissing self.old.pieces bound result }
+        ensures same { self.new ≡ record self.old { looks = self.new.looks } }
+        ensures looks { self.new.looks ≤ self.old.looks + min result self.old.end }
     {
-        let _places = &self.places;
-        for i in 1..128u32 {
+        let stop = self.end.min(bound);
+        let start = self.gap.max(1).min(stop);
+        for i in start..stop {
             if self.at(i).is_some() {
-                return i.min(bound);
+                self.skip(i);
+                return i;
             }
         }
+        self.skip(stop);
         bound
     }
 
-    // The octets of the first so many pieces joined, unless they are too many.
-    pub(crate) fn join(&self, count: u32, limit: usize) -> Option<Packet>
+    // It is remembered that no piece waits below this place.
+    fn skip(&mut self, to: u32)
+        requires within { to ≤ 128 }
+        requires none { (j : ℕ) → j < to → place self.old.pieces j ≡ None }
+        ensures { self.new ≡ self.old }
+    {
+        self.gap = to;
+    }
+
+    // So many numbers are settled in no complete run.
+    pub(crate) fn lose(&mut self, count: u32)
+        ensures { HasShifted long_space self.old self.new count }
+    {
+        let stop = self.end.min(count);
+        for i in self.gap.min(stop)..stop {
+            let _ = self.drop_at(i);
+        }
+        self.shift(count);
+    }
+
+    // So many numbers are settled as a complete run: its octets joined, unless they are too many.
+    pub(crate) fn give(&mut self, count: u32, limit: usize) -> Option<Packet>
         requires { limit ≤ 2050 }
-        ensures { result ≡ (if nat_lt limit (length (joined_there self.now count)) then None else Some (joined_there self.now count)) }
+        ensures packet { result ≡ (if nat_lt limit (length (joined_there self.old.pieces count)) then None else Some (joined_there self.old.pieces count)) }
+        ensures shifted { HasShifted long_space self.old self.new count }
     {
         let mut packet = Packet::new();
-        for i in 0..count {
-            if let Some(piece) = self.at(i) {
-                let octets = piece.octets.as_slice();
-                if limit - packet.len() < octets.len() {
-                    return None;
-                }
-                packet.append(octets);
+        let mut fits = true;
+        let stop = self.end.min(count);
+        for i in 0..stop {
+            if let Some(piece) = self.drop_at(i) {
+                fits = join(&mut packet, fits, piece.octets.as_slice(), limit);
             }
         }
-        Some(packet)
+        self.shift(count);
+        if fits { Some(packet) } else { None }
+    }
+
+    // The piece at this place, which waits no longer.
+    fn drop_at(&mut self, i: u32) -> Option<SlotPiece>
+        requires { i < 128 }
+        ensures piece { result ≡ place self.old.pieces i }
+        ensures pieces { (j : ℕ) → place self.new.pieces j ≡ (if j == i then None else place self.old.pieces j) }
+        ensures base { self.new.base ≡ self.old.base }
+        ensures end { self.new.end ≡ self.old.end }
+        ensures looks { self.new.looks ≤ self.old.looks + 1 }
+    {
+        self.slots.clear(number_after(self.base, i))
     }
 
     // A piece begins to wait.
-    pub(crate) fn put(&mut self, i: u32, piece: WaitingPiece)
-        requires { i < 128 }
-        ensures { (j : ℕ) → place self.new j ≡ (if j == i then Some piece else place self.old j) }
+    pub(crate) fn put(&mut self, i: u32, piece: SlotPiece)
+        requires within { i < 128 }
+        requires none { place self.old.pieces i ≡ None }
+        ensures pieces { (j : ℕ) → place self.new.pieces j ≡ (if j == i then Some piece else place self.old.pieces j) }
+        ensures base { self.new.base ≡ self.old.base }
+        ensures end { self.new.end ≡ max self.old.end (i + 1) }
+        ensures looks { self.new.looks ≤ self.old.looks + 1 }
     {
-        reach(&mut self.places, i as usize + 1);
-        self.places[i as usize] = Some(piece);
+        self.slots.put(number_after(self.base, i), piece);
+        self.gap = self.gap.min(i);
+        self.end = self.end.max(i + 1);
     }
 
-    // The first so many places are settled.
-    pub(crate) fn advance(&mut self, count: u32)
-        ensures { (j : ℕ) → place self.new j ≡ place self.old (j + count) }
+    // So many numbers are settled, of which none is kept.
+    fn shift(&mut self, count: u32)
+        requires { (j : ℕ) → j < count → place self.old.pieces j ≡ None }
+        ensures base { self.new.base ≡ (self.old.base + count) % long_space }
+        ensures pieces { (j : ℕ) → place self.new.pieces j ≡ place self.old.pieces (j + count) }
+        ensures end { self.new.end ≡ self.old.end - count }
+        ensures looks { self.new.looks ≡ self.old.looks }
     {
-        drop_front(&mut self.places, count as usize);
-    }
-
-    // No piece waits.
-    pub(crate) fn clear(&mut self)
-        ensures { self.new ≡ [] }
-    {
-        self.places.clear();
+        self.base = number_after(self.base, count);
+        self.gap = self.gap.saturating_sub(count);
+        self.end = self.end.saturating_sub(count);
     }
 }
 
-// Empty places at the end, up to so many places.
-fn reach(places: &mut Vec<Option<WaitingPiece>>, count: usize)
-    requires within { count ≤ 128 }
-    requires room { 128 ≤ vec_capacity places.old }
-    requires some { vec_len places.old ≤ 128 }
-    ensures reached { count ≤ vec_len places.new }
-    ensures within { vec_len places.new ≤ 128 }
-    ensures capacity { vec_capacity places.new ≡ vec_capacity places.old }
-    ensures same { (j : ℕ) → place places.new.items j ≡ place places.old.items j }
+// Appends these octets where all so far fit, and these do.
+fn join(packet: &mut Packet, fits: bool, octets: &[u8], limit: usize) -> bool
+    requires limit { limit ≤ 2050 }
+    requires within { length packet.old ≤ limit }
+    ensures within { length packet.new ≤ limit }
+    ensures joined { result ≡ true → (fits ≡ true) × (packet.new ≡ packet.old ++ octets.now) }
+    ensures too_long { result ≡ false → (fits ≡ false) ⊎ (limit < length packet.old + length octets.now) }
 {
-    'reaching: while places.len() < count {
-        places.push_reserved(None);
+    if !fits || limit - packet.len() < octets.len() {
+        return false;
     }
-}
-
-// The first so many places go, or all where there are fewer.
-fn drop_front(places: &mut Vec<Option<WaitingPiece>>, count: usize)
-    ensures dropped { places.new.items ≡ drop count places.old.items }
-    ensures capacity { vec_capacity places.new ≡ vec_capacity places.old }
-{
-    let gone = count.min(places.len());
-    for step in 0..gone {
-        let _ = places.remove(0);
-    }
+    packet.append(octets);
+    true
 }

@@ -1,15 +1,16 @@
-ghost use Rattle.std.specs.Prelude.{◌≡◌, ◌≢◌, ℕ, ◌+◌, ◌-◌, ◌%◌, ◌^◌, ◌<◌, ◌≤◌, List, [], ◌∷◌, ◌++◌, length, min, map, option_map, None, Some, unwrap_or, false, max, slice_set, slice_index_or, ◌==◌, if◌then◌else◌, is_some};
+ghost use Rattle.std.specs.Prelude.{◌≡◌, ◌≢◌, ℕ, ◌+◌, ◌-◌, ◌*◌, ◌%◌, ◌^◌, ◌<◌, ◌≤◌, List, [], ◌∷◌, ◌++◌, length, min, map, option_map, None, Some, unwrap_or, false, max, slice_set, slice_index_or, ◌==◌, if◌then◌else◌, is_some, true};
 ghost use Rattle.ppp_mp.specs.Delivered.{lowest, lesser, Gathering, AtRest, mark};
-ghost use Rattle.ppp_mp.specs.LongHeader.{long_space};
-ghost use Rattle.ppp_mp.specs.Places.{place, tally, ends};
-ghost use Rattle.ppp_mp.specs.Moves.{IsMoved, HasSettled, HasSettledNow, HasCompleted, HasTaken, arrived};
-ghost use Rattle.ppp_mp.specs.StandsFor.{KeepsNow};
+ghost use Rattle.ppp_mp.specs.Header.{long_space};
+ghost use Rattle.ppp_mp.specs.Places.{place, tally, ends, Found, HasLooked};
+ghost use Rattle.ppp_mp.specs.Moves.{IsMoved, HasSettled, HasSettledNow, HasCompleted, HasTaken, IsKept, arrived};
+ghost use Rattle.ppp_mp.specs.StandsFor.{KeepsNow, members_of, with_looks};
 
 use crate::counts::PieceNow;
 use crate::facts::GatherFacts;
 use crate::given::Given;
-use crate::numbers::{HALF, ahead_of, number_after};
-use crate::places::{RuleNow, WaitingPiece};
+use crate::numbers::{HALF, ahead_of};
+use crate::places::RuleNow;
+use crate::slots::SlotPiece;
 
 impl GatherFacts {
     // A piece with this number, modulo the number space, comes from a member.
@@ -17,27 +18,30 @@ impl GatherFacts {
         &mut self,
         at: usize,
         field: u32,
-        piece: WaitingPiece,
+        piece: SlotPiece,
         given: &mut Given,
     ) -> PieceNow
         requires link { at < 16 }
         requires field { field < long_space }
         requires empty { given.old ≡ [] }
-        requires rest { ends (place self.old.places 0) ≡ false }
+        requires rest { ends (place self.old.places.pieces 0) ≡ false }
+        requires member { is_some (slice_index_or self.old.overs at None) ≡ true }
         ensures mrru { self.new.mrru ≡ self.old.mrru }
-        ensures rest { ends (place self.new.places 0) ≡ false }
+        ensures members { members_of self.new ≡ members_of self.old }
+        ensures rest { ends (place self.new.places.pieces 0) ≡ false }
+        ensures looks { self.new.places.looks ≤ self.old.places.looks + 1024 }
         ensures other { (result ≢ PieceNow.Stranger) × (result ≢ PieceNow.BadHeader) }
-        ensures takes { (s : Gathering) → KeepsNow self.old s → AtRest self.old.mrru (mark s) s
-            → HasTaken self.old.mrru s (at + 1) (arrived field piece) result self.new given.new }
+        ensures takes { (s : Gathering) → KeepsNow long_space self.old s → AtRest self.old.mrru (mark s) s
+            → HasTaken long_space self.old.mrru s (at + 1) (arrived field piece) result self.new given.new }
     {
-        let ahead = ahead_of(self.base, field);
+        let ahead = self.ahead(field);
         if HALF <= ahead {
             self.bring(at, 0);
             self.count_old();
             self.settle_now(given);
             return PieceNow::Old;
         }
-        if self.places.at(ahead).is_some() {
+        if self.waits(ahead) {
             self.bring(at, ahead);
             self.count_doubled();
             self.settle_now(given);
@@ -45,7 +49,7 @@ impl GatherFacts {
         }
         let bound = self.bound().max(ahead.saturating_sub(127));
         self.settle(bound, given);
-        let left = ahead_of(self.base, field);
+        let left = self.ahead(field);
         let far = left.saturating_sub(127);
         self.lose(far);
         self.keep(left - far, piece);
@@ -90,24 +94,67 @@ impl GatherFacts {
         self.counts.doubled = self.counts.doubled.saturating_add(1);
     }
 
-    // A piece begins to wait.
-    fn keep(&mut self, i: u32, piece: WaitingPiece)
+    // A piece begins to wait where none does. None ever does there; the check spares a proof of it in each state.
+    fn keep(&mut self, i: u32, piece: SlotPiece)
         requires { i < 128 }
-        ensures places { (j : ℕ) → place self.new.places j ≡ (if j == i then Some piece else place self.old.places j) }
+        ensures kept { IsKept self.old.places.pieces self.new.places.pieces i piece }
         ensures mrru { self.new.mrru ≡ self.old.mrru }
-        ensures base { self.new.base ≡ self.old.base }
+        ensures base { self.new.places.base ≡ self.old.places.base }
         ensures overs { self.new.overs ≡ self.old.overs }
         ensures counts { self.new.counts ≡ self.old.counts }
+        ensures end { self.new.places.end ≤ max self.old.places.end (i + 1) }
+        ensures looks { self.new.places.looks ≤ self.old.places.looks + 2 }
     {
-        self.places.put(i, piece);
+        if !self.waits(i) {
+            self.places.put(i, piece);
+        }
+    }
+
+    // How far ahead of the least number that isn't settled a number is.
+    fn ahead(&self, field: u32) -> u32
+        requires { field < long_space }
+        ensures is { (self.now.places.base + result) % long_space ≡ field }
+        ensures within { result < long_space }
+        ensures end { self.now.places.end ≤ 128 }
+    {
+        ahead_of(self.places.base(), field)
+    }
+
+    // Whether a piece waits at this place.
+    fn waits(&mut self, i: u32) -> bool
+        ensures waits { result ≡ is_some (place self.old.places.pieces i) }
+        ensures same { self.new ≡ with_looks self.new.places.looks self.old }
+        ensures looks { self.new.places.looks ≤ self.old.places.looks + 1 }
+    {
+        self.places.waits(i)
+    }
+
+    // The rule that applies, with every missing number below the bound to be lost.
+    fn scan(&mut self, bound: u32) -> RuleNow
+        ensures found { Found self.new.places.pieces bound result }
+        ensures past { (i : ℕ) → 128 ≤ i → place self.new.places.pieces i ≡ None }
+        ensures same { self.new ≡ with_looks self.new.places.looks self.old }
+        ensures looks { HasLooked self.old.places self.new.places result }
+    {
+        self.places.scan(bound)
+    }
+
+    // The looks are counted from 0 on again.
+    pub(crate) fn reset(&mut self)
+        ensures now { self.new ≡ with_looks 0 self.old }
+        ensures end { self.old.places.end ≤ 128 }
+    {
+        self.places.reset();
     }
 
     // Applies the rules with M as it is.
     pub(crate) fn settle_now(&mut self, given: &mut Given)
-        requires { length given.old + tally ends self.old.places 128 ≤ 128 }
+        requires { length given.old + tally ends self.old.places.pieces 128 ≤ 128 }
         ensures mrru { self.new.mrru ≡ self.old.mrru }
-        ensures rest { ends (place self.new.places 0) ≡ false }
-        ensures settled { HasSettledNow self.old self.new given.old given.new }
+        ensures members { members_of self.new ≡ members_of self.old }
+        ensures rest { ends (place self.new.places.pieces 0) ≡ false }
+        ensures looks { self.new.places.looks + 2 * self.new.places.end ≤ self.old.places.looks + 3 * self.old.places.end + 1 }
+        ensures settled { HasSettledNow long_space self.old self.new given.old given.new }
     {
         let bound = self.bound();
         self.settle(bound, given);
@@ -131,16 +178,18 @@ impl GatherFacts {
 
     // Applies the rules until none does. A missing stretch is lost at once.
     fn settle(&mut self, bound: u32, given: &mut Given)
-        requires { length given.old + tally ends self.old.places 128 ≤ 128 }
-        ensures past { (i : ℕ) → 128 ≤ i → place self.new.places i ≡ None }
+        requires { length given.old + tally ends self.old.places.pieces 128 ≤ 128 }
+        ensures past { (i : ℕ) → 128 ≤ i → place self.new.places.pieces i ≡ None }
         ensures mrru { self.new.mrru ≡ self.old.mrru }
-        ensures room { length given.new + tally ends self.new.places 128 ≤ length given.old + tally ends self.old.places 128 }
-        ensures rest { ends (place self.new.places 0) ≡ false }
-        ensures settled { HasSettled bound self.old self.new given.old given.new }
+        ensures members { members_of self.new ≡ members_of self.old }
+        ensures room { length given.new + tally ends self.new.places.pieces 128 ≤ length given.old + tally ends self.old.places.pieces 128 }
+        ensures rest { ends (place self.new.places.pieces 0) ≡ false }
+        ensures looks { self.new.places.looks + 2 * self.new.places.end ≤ self.old.places.looks + 3 * self.old.places.end + 1 }
+        ensures settled { HasSettled long_space bound self.old self.new given.old given.new }
     {
         let mut left = bound;
         'rules: loop {
-            match self.places.scan(left) {
+            match self.scan(left) {
                 RuleNow::Rests => return,
                 RuleNow::Misses(count) => {
                     self.lose(count);
@@ -160,34 +209,25 @@ impl GatherFacts {
 
     // So many numbers are lost.
     fn lose(&mut self, count: u32)
-        ensures moved { IsMoved self.old self.new count }
+        ensures moved { IsMoved long_space self.old self.new count }
         ensures counts { self.new.counts ≡ record self.old.counts { lost = min (self.old.counts.lost + count) (2 ^ 64 - 1) } }
     {
-        self.advance(count);
-        self.counts.lost = self.counts.lost.saturating_add(u64::from(count));
-    }
-
-    // So many numbers are settled.
-    fn advance(&mut self, count: u32)
-        ensures moved { IsMoved self.old self.new count }
-        ensures counts { self.new.counts ≡ self.old.counts }
-    {
-        self.base = number_after(self.base, count);
-        self.places.advance(count);
+        self.places.lose(count);
         lessen(&mut self.overs, count);
+        self.counts.lost = self.counts.lost.saturating_add(u64::from(count));
     }
 
     // So many pieces are given as a packet, or counted as too long.
     fn complete(&mut self, count: u32, given: &mut Given)
         requires room { length given.old < 128 }
-        ensures moved { IsMoved self.old self.new count }
+        ensures moved { IsMoved long_space self.old self.new count }
         ensures packet { HasCompleted self.old self.new count given.old given.new }
     {
-        match self.places.join(count, usize::from(self.mrru) + 2) {
+        match self.places.give(count, usize::from(self.mrru) + 2) {
             Some(packet) => given.push(packet),
             None => self.counts.too_long = self.counts.too_long.saturating_add(1),
         }
-        self.advance(count);
+        lessen(&mut self.overs, count);
     }
 }
 

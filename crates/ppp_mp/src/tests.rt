@@ -21,17 +21,6 @@ fn members_of(rt: &impl Abort, rows: &[(u8, u16)]) -> Members {
     members
 }
 
-// A piece as it goes out: its header and its octets.
-fn sent(packet: &[u8], cuts: &Cuts, at: u8, number: u32) -> Option<(LinkId, Frame)> {
-    let piece = cuts.get(at)?;
-    let begin = usize::from(piece.place);
-    let octets = packet.get(begin..begin + usize::from(piece.len))?;
-    let mut out: ArrayVec<u8, 1508> = ArrayVec::new();
-    out.try_extend_from_slice(&cuts.header(at, number)?).ok()?;
-    out.try_extend_from_slice(octets).ok()?;
-    Some((piece.link, Frame::from(out)))
-}
-
 // A piece that comes, the answer to it, and how many packets it gives.
 struct Row(u8, &'static [u8], PieceNow, u8);
 
@@ -57,7 +46,7 @@ fn is_packet(given: &Given, at: u8, octets: &[u8]) -> bool {
 #[test]
 fn members_in_link_order(rt: HostRuntime) {
     let mut members = members_of(&rt, &[(1, 128), (7, 1500)]);
-    for (number, mru) in [(7, 1500), (6, 1500), (8, 127)] {
+    for (number, mru) in [(7, 1500), (6, 1500), (8, 127), (8, 1501)] {
         let member = MemberView {
             link: link(&rt, number),
             mru,
@@ -113,13 +102,17 @@ fn a_datagram_over_two_links(rt: HostRuntime) -> Result<(), Fail> {
     assert!(rt; 0 < members.len());
     let mut sending = Sending::new();
     let cuts = sending.cut(300, &members);
-    assert_eq!(rt; (sending.number, sending.turn), (2, 2));
-    let (from, first) = sent(&packet, &cuts, 0, 0).expect(&rt, "the first piece");
-    let (to, second) = sent(&packet, &cuts, 1, 0).expect(&rt, "the second piece");
+    assert_eq!(rt; (sending.number(), sending.turn()), (2, 2));
+    let from = cuts.get(0).expect(&rt, "the first piece").link;
+    let to = cuts.get(1).expect(&rt, "the second piece").link;
+    let first = cuts.information(0, 0, &packet).expect(&rt, "a frame");
+    let second = cuts.information(1, 0, &packet).expect(&rt, "a frame");
     assert_eq!(rt;
         (from.number(), to.number(), first.len(), second.len()),
         (1, 2, 154, 154)
     );
+    assert!(rt; cuts.information(2, 0, &packet).is_none());
+    assert!(rt; cuts.information(1, 0, &packet[..299]).is_none());
     assert!(rt; first.as_slice().starts_with(&[0x80, 0, 0, 0, 0x21]));
     assert!(rt; second.as_slice().starts_with(&[0x40, 0, 0, 1, 0x21]));
 
@@ -204,23 +197,55 @@ fn numbers_begin_anew(rt: HostRuntime) -> Result<(), Fail> {
 fn a_member_that_lags(rt: HostRuntime) -> Result<(), Fail> {
     let mut gather = Gather::new(rt.alloc(), 1500)?;
     let mut given = Given::new(rt.alloc())?;
-    gather.join(link(&rt, 1));
-    gather.join(link(&rt, 2));
-    for number in 1..128u8 {
-        let answered = gather.piece(link(&rt, 1), &[0xc0, 0, 0, number], &mut given);
+    // The last piece, the link that brings it, and how many numbers are lost: 127 beyond the least, or the least itself.
+    for (number, from, lost) in [(128, 1, 1), (0, 2, 0)] {
+        gather.restart(1500);
+        gather.join(link(&rt, 1));
+        gather.join(link(&rt, 2));
+        for number in 1..128u8 {
+            let answered = gather.piece(link(&rt, 1), &[0xc0, 0, 0, number], &mut given);
+            assert_eq!(rt;
+                (answered, given.count()),
+                (PieceNow::Kept, 0),
+                "at {number}"
+            );
+        }
+        let answered = gather.piece(link(&rt, from), &[0xc0, 0, 0, number], &mut given);
         assert_eq!(rt;
-            (answered, given.count()),
-            (PieceNow::Kept, 0),
+            (answered, given.count(), gather.counts().lost),
+            (PieceNow::Kept, 128, lost),
             "at {number}"
         );
+        assert!(rt; gather.looks() <= 1024, "{}", gather.looks());
     }
-    comes(
-        &rt,
-        &mut gather,
-        &mut given,
-        &[Row(1, &[0xc0, 0, 0, 128], PieceNow::Kept, 128)],
-    );
-    assert_eq!(rt; gather.counts().lost, 1);
+    Ok(())
+}
+
+#[test]
+fn slots_by_number(rt: HostRuntime) -> Result<(), Fail> {
+    let mut slots = Slots::new(rt.alloc())?;
+    assert!(rt; slots.at(16_777_215).is_none());
+    let octets = Frame::from_octets(b"ab").expect(&rt, "it fits");
+    let piece = SlotPiece {
+        first: true,
+        last: false,
+        len: 2,
+        octets,
+    };
+    slots.put(16_777_215, piece);
+    let view = SlotView {
+        first: true,
+        last: false,
+        len: 2,
+    };
+    assert_eq!(rt; slots.at(16_777_215), Some(view));
+    assert!(rt; slots.at(127).is_none() && slots.clear(127).is_none());
+    let piece = slots.clear(16_777_215).expect(&rt, "it was put");
+    assert_eq!(rt; piece.octets.as_slice(), b"ab".as_slice());
+    assert!(rt; slots.at(16_777_215).is_none());
+    assert_eq!(rt; slots.looks(), 7);
+    slots.reset();
+    assert_eq!(rt; slots.looks(), 0);
     Ok(())
 }
 
@@ -237,6 +262,32 @@ fn a_far_jump(rt: HostRuntime) -> Result<(), Fail> {
     );
     assert!(rt; is_packet(&given, 0, b"x"));
     assert_eq!(rt; gather.counts().lost, 8_388_000);
+    assert!(rt; gather.looks() <= 1024, "{}", gather.looks());
+    Ok(())
+}
+
+// Without the premise that each piece arrives less than half the number space from the least number that isn't settled,
+// what is given is no subsequence of what was sent: the first packet comes once more behind the others.
+#[test]
+fn a_repeat_beyond_half_the_space(rt: HostRuntime) -> Result<(), Fail> {
+    let mut gather = Gather::new(rt.alloc(), 1500)?;
+    let mut given = Given::new(rt.alloc())?;
+    gather.join(link(&rt, 1));
+    for (field, octet) in [
+        ([0, 0, 0], b'a'),
+        ([0x7f, 0xff, 0xff], b'b'),
+        ([0xf4, 0x24, 0], b'c'),
+        ([0, 0, 0], b'a'),
+    ] {
+        let [high, middle, low] = field;
+        let answered = gather.piece(link(&rt, 1), &[0xc0, high, middle, low, octet], &mut given);
+        assert_eq!(rt;
+            (answered, given.count()),
+            (PieceNow::Kept, 1),
+            "at {octet}"
+        );
+        assert!(rt; is_packet(&given, 0, &[octet]), "at {octet}");
+    }
     Ok(())
 }
 

@@ -1,10 +1,15 @@
-use Rattle.std.proofs.Common.{◌+◌}
+use Rattle.std.proofs.Common.{◌≡◌, ◌+◌, ◌*◌, ◌≤◌}
 use Rattle.ppp_mp.specs.Places.{tally, waits}
+use Rattle.ppp_mp.specs.StandsFor.{members_of}
 use Rattle.ppp_mp.proofs.SettlingLemmas.{Settling}
 use Rattle.ppp_mp.proofs.facts.GatherFacts.settle.Given as goal
 
 abbrev pub invariant-rules : goal.invariant-rules
-invariant-rules l = Settling l.initial.self l.initial.given l.bound l.self l.given l.left
+invariant-rules l = record {
+  settling : Settling l.initial.self l.initial.given l.bound l.self l.given l.left;
+  looks : l.self.places.looks + 3 * l.self.places.end ≤ l.initial.self.places.looks + 3 * l.initial.self.places.end;
+  members : members_of l.self ≡ members_of l.initial.self;
+}
 
 abbrev pub decreases-rules : goal.decreases-rules
-decreases-rules l = l.left + tally waits l.self.places 128
+decreases-rules l = l.left + tally waits l.self.places.pieces 128

@@ -1,72 +1,102 @@
-use Rattle.std.proofs.Common.{◌≡◌, ◌+◌, ◌-◌, ℕ, List, [], true, false, is_some, arith, sym, ap, subst, refl, ◌∙◌, max, unwrap_or}
-use Rattle.ppp_mp.specs.Delivered.{lowest}
+use Rattle.std.proofs.Common.{◌≡◌, ◌+◌, ◌-◌, ◌%◌, ℕ, List, Option, [], true, false, None, is_some, map, slice_index_or, arith, sym, ap, subst, refl, ◌∙◌, max, unwrap_or}
+use Rattle.ppp_mp.specs.Delivered.{AtRest, mark, lowest}
+use Rattle.ppp_mp.specs.Header.{long_space}
 use Rattle.ppp_mp.specs.Places.{place}
-use Rattle.ppp_mp.specs.Moves.{HasSettledNow, HasSettled}
-use Rattle.ppp_mp.specs.StandsFor.{stopped}
+use Rattle.ppp_mp.specs.Moves.{HasSettledNow, HasSettled, HasTaken, IsKept, arrived}
+use Rattle.ppp_mp.specs.StandsFor.{KeepsNow, stopped, members_of}
 use Rattle.ppp_mp.specs.declared.facts.GatherFacts.{GatherFacts}
-use Rattle.ppp_mp.specs.declared.places.WaitingPiece.{WaitingPiece}
-use Rattle.ppp_mp.proofs.SettlingLemmas.{room_first, room_last}
-use Rattle.ppp_mp.proofs.Taking.{taken_old, taken_doubled, taken_kept, some-same, over_now, counting_old, counting_doubled}
+use Rattle.ppp_mp.specs.declared.slots.SlotPiece.{SlotPiece}
+use Rattle.ppp_mp.specs.declared.counts.PieceNow.TheVariants.{Kept, Doubled}
+use Rattle.ppp_mp.proofs.MemberCalls.{brought_same, moved_same, there_same}
+use Rattle.ppp_mp.proofs.SettlingLemmas.{room_first, room_last, looks_keeps}
+use Rattle.ppp_mp.proofs.Taking.{taken_old, taken_doubled, taken_kept, over_now, counting_old, counting_doubled}
 use Rattle.ppp_mp.proofs.facts.GatherFacts.take.Goals as goal
-use denote.Bor.{Bor}
 
 pub settle_now-requires : goal.settle_now-requires
-settle_now-requires c = room_first c.args.given.now c.args.self.now.places c.count_old.new.self.places c.requires.empty (ap (λ (g : GatherFacts). g.places) c.count_old.ensures ∙ ap (λ (g : GatherFacts). g.places) c.bring.ensures) c.requires.rest
+settle_now-requires c = room_first c.args.given.now c.args.self.now.places.pieces c.count_old.new.self.places.pieces c.requires.empty (ap (λ (g : GatherFacts). g.places.pieces) c.count_old.ensures ∙ ap (λ (g : GatherFacts). g.places.pieces) c.bring.ensures) c.requires.rest
 
-pub settle_now-requires-then-is_some : goal.settle_now-requires-then-is_some
-settle_now-requires-then-is_some c = room_first c.args.given.now c.args.self.now.places c.count_doubled.new.self.places c.requires.empty (ap (λ (g : GatherFacts). g.places) c.count_doubled.ensures ∙ ap (λ (g : GatherFacts). g.places) c.bring-then-is_some.ensures) c.requires.rest
+pub settle_now-requires-then-waits : goal.settle_now-requires-then-waits
+settle_now-requires-then-waits c =
+    room_first c.args.given.now c.args.self.now.places.pieces c.count_doubled.new.self.places.pieces c.requires.empty
+    (ap (λ (g : GatherFacts). g.places.pieces) c.count_doubled.ensures ∙ ap (λ (g : GatherFacts). g.places.pieces) c.bring-then-waits.ensures ∙ ap (λ (g : GatherFacts). g.places.pieces) c.waits.ensures.same) c.requires.rest
 
 pub settle-requires : goal.settle-requires
-settle-requires c = room_first c.args.given.now c.args.self.now.places c.args.self.now.places c.requires.empty refl c.requires.rest
+settle-requires c = room_first c.args.given.now c.args.self.now.places.pieces c.waits.new.self.places.pieces c.requires.empty (ap (λ (g : GatherFacts). g.places.pieces) c.waits.ensures.same) c.requires.rest
 
 pub settle_now-requires-2 : goal.settle_now-requires-2
 settle_now-requires-2 c =
-    let same : c.bring-2.new.self.places ≡ c.keep.new.self.places = ap (λ (g : GatherFacts). g.places) c.bring-2.ensures in
-    room_last c.args.given.now c.settle.new.given c.args.self.now.places c.args.self.now.places c.settle.new.self.places c.lose.new.self.places c.bring-2.new.self.places c.saturating_sub-far.result
-    (c.ahead_of-left.result - c.saturating_sub-far.result) c.args.piece
-    c.requires.empty refl c.requires.rest c.settle.ensures.room c.settle.ensures.past c.lose.ensures.moved.places (λ j. ap (λ ps. place ps j) same ∙ c.keep.ensures.places j)
+    let same : c.bring-2.new.self.places.pieces ≡ c.keep.new.self.places.pieces = ap (λ (g : GatherFacts). g.places.pieces) c.bring-2.ensures in
+    let P = λ (l : List (Option SlotPiece)). IsKept c.lose.new.self.places.pieces l (c.ahead-left.result - c.saturating_sub-far.result) c.args.piece in
+    room_last c.args.given.now c.settle.new.given c.args.self.now.places.pieces c.waits.new.self.places.pieces c.settle.new.self.places.pieces c.lose.new.self.places.pieces c.bring-2.new.self.places.pieces c.saturating_sub-far.result
+    (c.ahead-left.result - c.saturating_sub-far.result) c.args.piece
+    c.requires.empty (ap (λ (g : GatherFacts). g.places.pieces) c.waits.ensures.same) c.requires.rest c.settle.ensures.room c.settle.ensures.past c.lose.ensures.moved.places (subst P (sym same) c.keep.ensures.kept)
 
 pub returns-then-ahead-ge-HALF-clause-takes : goal.returns-then-ahead-ge-HALF-clause-takes
 returns-then-ahead-ge-HALF-clause-takes c = λ s k rest.
     let g2 : GatherFacts = c.count_old.new.self in
     let all : c.count_old.new.self ≡ record c.args.self.now { overs = over_now c.args.self.now c.args.at 0; counts = record c.args.self.now.counts { old = stopped (c.args.self.now.counts.old + 1) } } =
     c.count_old.ensures ∙ ap counting_old c.bring.ensures in
-    let P = λ (l : List (List ℕ)). HasSettledNow g2 c.settle_now.new.self l c.settle_now.new.given in
-    let settled : HasSettledNow g2 c.settle_now.new.self [] c.settle_now.new.given = subst P c.requires.empty c.settle_now.ensures.settled in
-    taken_old c.args.self.now g2 c.settle_now.new.self c.settle_now.new.given s c.args.at c.ahead_of-ahead.result c.args.field c.args.piece
-    k c.requires.field c.ahead_of-ahead.ensures.within c.ahead_of-ahead.ensures.is c.if-ahead-ge-HALF.true
-    (ap (λ (g : GatherFacts). g.mrru) all) (ap (λ (g : GatherFacts). g.base) all) (ap (λ (g : GatherFacts). g.places) all) (ap (λ (g : GatherFacts). g.overs) all) (ap (λ (g : GatherFacts). g.counts) all)
+    let P = λ (l : List (List ℕ)). HasSettledNow long_space g2 c.settle_now.new.self l c.settle_now.new.given in
+    let settled : HasSettledNow long_space g2 c.settle_now.new.self [] c.settle_now.new.given = subst P c.requires.empty c.settle_now.ensures.settled in
+    taken_old c.args.self.now g2 c.settle_now.new.self c.settle_now.new.given s c.args.at c.ahead-ahead.result c.args.field c.args.piece
+    k c.requires.field c.ahead-ahead.ensures.within c.ahead-ahead.ensures.is c.if-ahead-ge-HALF.true
+    (ap (λ (g : GatherFacts). g.mrru) all) (ap (λ (g : GatherFacts). g.places.base) all) (ap (λ (g : GatherFacts). g.places.pieces) all) (ap (λ (g : GatherFacts). g.overs) all) (ap (λ (g : GatherFacts). g.counts) all)
     settled
 
-pub returns-then-is_some-clause-takes : goal.returns-then-is_some-clause-takes
-returns-then-is_some-clause-takes c = λ s k rest.
+pub returns-then-waits-clause-takes : goal.returns-then-waits-clause-takes
+returns-then-waits-clause-takes c = λ s k rest.
+    let g : GatherFacts = c.waits.new.self in
     let g2 : GatherFacts = c.count_doubled.new.self in
-    let all : c.count_doubled.new.self ≡ record c.args.self.now { overs = over_now c.args.self.now c.args.at c.ahead_of-ahead.result; counts = record c.args.self.now.counts { doubled = stopped (c.args.self.now.counts.doubled + 1) } } =
-    c.count_doubled.ensures ∙ ap counting_doubled c.bring-then-is_some.ensures in
-    let P = λ (l : List (List ℕ)). HasSettledNow g2 c.settle_now-then-is_some.new.self l c.settle_now-then-is_some.new.given in
-    let settled : HasSettledNow g2 c.settle_now-then-is_some.new.self [] c.settle_now-then-is_some.new.given = subst P c.requires.empty c.settle_now-then-is_some.ensures.settled in
-    let there : is_some (place c.args.self.now.places c.ahead_of-ahead.result) ≡ true =
-    some-same (λ (p : Bor WaitingPiece). p.now) c.at.result (place c.args.self.now.places c.ahead_of-ahead.result) c.at.ensures ∙ sym c.is_some.ensures ∙ c.if-is_some.true in
-    taken_doubled c.args.self.now g2 c.settle_now-then-is_some.new.self c.settle_now-then-is_some.new.given s c.args.at c.ahead_of-ahead.result c.args.field c.args.piece
-    k c.requires.field c.ahead_of-ahead.ensures.is (omega (arith, c.if-ahead-ge-HALF.false)) there
-    (ap (λ (g : GatherFacts). g.mrru) all) (ap (λ (g : GatherFacts). g.base) all) (ap (λ (g : GatherFacts). g.places) all) (ap (λ (g : GatherFacts). g.overs) all) (ap (λ (g : GatherFacts). g.counts) all)
-    settled
+    let same = c.waits.ensures.same in
+    let base : c.waits.new.self.places.base ≡ c.args.self.now.places.base = ap (λ (x : GatherFacts). x.places.base) same in
+    let keeps : KeepsNow long_space c.waits.new.self s = subst (λ (x : GatherFacts). KeepsNow long_space x s) (sym same) (looks_keeps c.args.self.now c.waits.new.self.places.looks s k) in
+    let all : c.count_doubled.new.self ≡ record c.waits.new.self { overs = over_now c.waits.new.self c.args.at c.ahead-ahead.result; counts = record c.waits.new.self.counts { doubled = stopped (c.waits.new.self.counts.doubled + 1) } } =
+    c.count_doubled.ensures ∙ ap counting_doubled c.bring-then-waits.ensures in
+    let P = λ (l : List (List ℕ)). HasSettledNow long_space g2 c.settle_now-then-waits.new.self l c.settle_now-then-waits.new.given in
+    let settled : HasSettledNow long_space g2 c.settle_now-then-waits.new.self [] c.settle_now-then-waits.new.given = subst P c.requires.empty c.settle_now-then-waits.ensures.settled in
+    let there : is_some (place c.waits.new.self.places.pieces c.ahead-ahead.result) ≡ true =
+    ap (λ (x : GatherFacts). is_some (place x.places.pieces c.ahead-ahead.result)) same ∙ sym c.waits.ensures.waits ∙ c.if-waits.true in
+    let taken : HasTaken long_space c.waits.new.self.mrru s (c.args.at + 1) (arrived c.args.field c.args.piece) Doubled c.settle_now-then-waits.new.self c.settle_now-then-waits.new.given =
+    taken_doubled c.waits.new.self g2 c.settle_now-then-waits.new.self c.settle_now-then-waits.new.given s c.args.at c.ahead-ahead.result c.args.field c.args.piece
+    keeps c.requires.field (ap (λ b. (b + c.ahead-ahead.result) % long_space) base ∙ c.ahead-ahead.ensures.is) (omega (arith, c.if-ahead-ge-HALF.false)) there
+    (ap (λ (g : GatherFacts). g.mrru) all) (ap (λ (g : GatherFacts). g.places.base) all) (ap (λ (g : GatherFacts). g.places.pieces) all) (ap (λ (g : GatherFacts). g.overs) all) (ap (λ (g : GatherFacts). g.counts) all)
+    settled in
+    subst (λ (m : ℕ). HasTaken long_space m s (c.args.at + 1) (arrived c.args.field c.args.piece) Doubled c.settle_now-then-waits.new.self c.settle_now-then-waits.new.given) (ap (λ (x : GatherFacts). x.mrru) same) taken
 
 pub returns-clause-takes : goal.returns-clause-takes
 returns-clause-takes c = λ s k rest.
+    let same = c.waits.ensures.same in
     let g6 : GatherFacts = c.bring-2.new.self in
-    let P = λ (l : List (List ℕ)). HasSettled c.max-bound.result c.args.self.now c.settle.new.self l c.settle.new.given in
-    let settled : HasSettled c.max-bound.result c.args.self.now c.settle.new.self [] c.settle.new.given = subst P c.requires.empty c.settle.ensures.settled in
-    let there : is_some (place c.args.self.now.places c.ahead_of-ahead.result) ≡ false =
-    some-same (λ (p : Bor WaitingPiece). p.now) c.at.result (place c.args.self.now.places c.ahead_of-ahead.result) c.at.ensures ∙ sym c.is_some.ensures ∙ c.if-is_some.false in
-    let mrru : c.bring-2.new.self.mrru ≡ c.args.self.now.mrru = ap (λ (g : GatherFacts). g.mrru) c.bring-2.ensures ∙ c.keep.ensures.mrru ∙ c.lose.ensures.moved.mrru ∙ c.settle.ensures.mrru in
-    let bound : c.max-bound.result ≡ max (unwrap_or (lowest c.args.self.now.overs) 0) (c.ahead_of-ahead.result - 127) =
-    c.max-bound.ensures ∙ ap (λ b. max b c.saturating_sub.result) c.bound.ensures ∙ ap (λ a. max (unwrap_or (lowest c.args.self.now.overs) 0) a) c.saturating_sub.ensures in
-    taken_kept c.args.self.now c.settle.new.self c.lose.new.self c.keep.new.self g6 c.settle_now-2.new.self c.settle.new.given c.settle_now-2.new.given s c.args.at c.ahead_of-ahead.result c.args.field
-    c.max-bound.result c.ahead_of-left.result c.saturating_sub-far.result (c.ahead_of-left.result - c.saturating_sub-far.result) c.args.piece
-    k rest c.requires.field c.ahead_of-ahead.ensures.is (omega (arith, c.if-ahead-ge-HALF.false)) there
+    let base0 : c.waits.new.self.places.base ≡ c.args.self.now.places.base = ap (λ (x : GatherFacts). x.places.base) same in
+    let mrru0 : c.waits.new.self.mrru ≡ c.args.self.now.mrru = ap (λ (x : GatherFacts). x.mrru) same in
+    let keeps : KeepsNow long_space c.waits.new.self s = subst (λ (x : GatherFacts). KeepsNow long_space x s) (sym same) (looks_keeps c.args.self.now c.waits.new.self.places.looks s k) in
+    let rests : AtRest c.waits.new.self.mrru (mark s) s = subst (λ (m : ℕ). AtRest m (mark s) s) (sym mrru0) rest in
+    let P = λ (l : List (List ℕ)). HasSettled long_space c.max-bound.result c.waits.new.self c.settle.new.self l c.settle.new.given in
+    let settled : HasSettled long_space c.max-bound.result c.waits.new.self c.settle.new.self [] c.settle.new.given = subst P c.requires.empty c.settle.ensures.settled in
+    let there : is_some (place c.waits.new.self.places.pieces c.ahead-ahead.result) ≡ false =
+    ap (λ (x : GatherFacts). is_some (place x.places.pieces c.ahead-ahead.result)) same ∙ sym c.waits.ensures.waits ∙ c.if-waits.false in
+    let mrru : c.bring-2.new.self.mrru ≡ c.waits.new.self.mrru = ap (λ (g : GatherFacts). g.mrru) c.bring-2.ensures ∙ c.keep.ensures.mrru ∙ c.lose.ensures.moved.mrru ∙ c.settle.ensures.mrru in
+    let bound : c.max-bound.result ≡ max (unwrap_or (lowest c.waits.new.self.overs) 0) (c.ahead-ahead.result - 127) =
+    c.max-bound.ensures ∙ ap (λ b. max b c.saturating_sub.result) c.bound.ensures ∙ ap (λ a. max (unwrap_or (lowest c.waits.new.self.overs) 0) a) c.saturating_sub.ensures in
+    let taken : HasTaken long_space c.waits.new.self.mrru s (c.args.at + 1) (arrived c.args.field c.args.piece) Kept c.settle_now-2.new.self c.settle_now-2.new.given =
+    taken_kept c.waits.new.self c.settle.new.self c.lose.new.self c.keep.new.self g6 c.settle_now-2.new.self c.settle.new.given c.settle_now-2.new.given s c.args.at c.ahead-ahead.result c.args.field
+    c.max-bound.result c.ahead-left.result c.saturating_sub-far.result (c.ahead-left.result - c.saturating_sub-far.result) c.args.piece
+    keeps rests c.requires.field (ap (λ b. (b + c.ahead-ahead.result) % long_space) base0 ∙ c.ahead-ahead.ensures.is) (omega (arith, c.if-ahead-ge-HALF.false)) there
     bound settled
-    c.ahead_of-left.ensures.within c.ahead_of-left.ensures.is c.saturating_sub-far.ensures c.lose.ensures.moved c.lose.ensures.counts
-    refl c.keep.ensures.base c.keep.ensures.places c.keep.ensures.overs c.keep.ensures.counts
-    mrru (ap (λ (g : GatherFacts). g.base) c.bring-2.ensures) (ap (λ (g : GatherFacts). g.places) c.bring-2.ensures) (ap (λ (g : GatherFacts). g.overs) c.bring-2.ensures) (ap (λ (g : GatherFacts). g.counts) c.bring-2.ensures)
-    c.settle_now-2.ensures.settled
+    c.ahead-left.ensures.within c.ahead-left.ensures.is c.saturating_sub-far.ensures c.lose.ensures.moved c.lose.ensures.counts
+    refl c.keep.ensures.base c.keep.ensures.kept c.keep.ensures.overs c.keep.ensures.counts
+    mrru (ap (λ (g : GatherFacts). g.places.base) c.bring-2.ensures) (ap (λ (g : GatherFacts). g.places.pieces) c.bring-2.ensures) (ap (λ (g : GatherFacts). g.overs) c.bring-2.ensures) (ap (λ (g : GatherFacts). g.counts) c.bring-2.ensures)
+    c.settle_now-2.ensures.settled in
+    subst (λ (m : ℕ). HasTaken long_space m s (c.args.at + 1) (arrived c.args.field c.args.piece) Kept c.settle_now-2.new.self c.settle_now-2.new.given) mrru0 taken
+
+pub returns-then-waits-clause-members : goal.returns-then-waits-clause-members
+returns-then-waits-clause-members c =
+    let in_it : is_some (slice_index_or c.waits.new.self.overs c.args.at None) ≡ true = ap (λ (g : GatherFacts). is_some (slice_index_or g.overs c.args.at None)) c.waits.ensures.same ∙ c.requires.member in
+    c.settle_now-then-waits.ensures.members ∙ ap members_of c.count_doubled.ensures ∙ ap members_of c.bring-then-waits.ensures ∙ brought_same c.waits.new.self.overs c.args.at _ in_it ∙ ap members_of c.waits.ensures.same
+
+pub returns-clause-members : goal.returns-clause-members
+returns-clause-members c =
+    let before : members_of c.keep.new.self ≡ members_of c.args.self.now =
+    ap (map is_some) c.keep.ensures.overs ∙ ap (map is_some) c.lose.ensures.moved.overs ∙ moved_same c.settle.new.self.overs _ ∙ c.settle.ensures.members ∙ ap members_of c.waits.ensures.same in
+    let in_it : is_some (slice_index_or c.keep.new.self.overs c.args.at None) ≡ true = there_same c.keep.new.self.overs c.args.self.now.overs c.args.at before ∙ c.requires.member in
+    c.settle_now-2.ensures.members ∙ ap members_of c.bring-2.ensures ∙ brought_same c.keep.new.self.overs c.args.at _ in_it ∙ before

@@ -11,4 +11,4 @@ push-requires c =
 pub invariant_of-self : goal.invariant_of-self
 invariant_of-self c =
     let last : c.last_link.result ≡ last_link 0 c.self.inside.members.items = c.last_link.ensures ∙ ap (last_link 0) c.as_slice.ensures.value in
-    rw c.push.ensures.items (added c.self.inside.members.items 0 c.args.member c.self.invariant (omega arith) (omega arith) (omega arith))
+    rw c.push.ensures.items (added c.self.inside.members.items 0 c.args.member c.self.invariant (omega arith) (omega arith) (omega arith) (omega arith))
