@@ -1,4 +1,8 @@
+ghost use Rattle.std.specs.Prelude.{◌≡◌, IfOk};
+
 use crate::text::Text;
+use ppp_base::NoMemory;
+use std::alloc::Global;
 
 /// A directive of a script, met in its turn (chat(8), "Abort strings", "Timeout").
 #[derive(Drop)]
@@ -9,4 +13,17 @@ pub(crate) enum Directive {
     ClearAbort(Text),
     /// An expect that begins from now on is late after so many seconds.
     Timeout(u16),
+}
+
+impl Directive {
+    /// The same directive again.
+    pub fn copy(&self, alloc: Global) -> Result<Directive, NoMemory>
+        ensures { IfOk result (λ directive. directive ≡ self.now) }
+    {
+        match self {
+            Directive::Abort(text) => Ok(Directive::Abort(text.copy(alloc)?)),
+            Directive::ClearAbort(text) => Ok(Directive::ClearAbort(text.copy(alloc)?)),
+            Directive::Timeout(seconds) => Ok(Directive::Timeout(*seconds)),
+        }
+    }
 }

@@ -75,6 +75,19 @@ impl Directives {
         }
     }
 
+    /// The same again. It takes no memory.
+    pub fn copy(&self) -> Directives
+        ensures places { result.aborts.items ≡ self.now.aborts.items }
+        ensures timeout { result.timeout_ms ≡ self.now.timeout_ms }
+    {
+        let mut aborts = ArrayVec::new();
+        let _ = aborts.try_extend_from_slice(self.aborts.as_slice());
+        Directives {
+            aborts,
+            timeout_ms: self.timeout_ms,
+        }
+    }
+
     // The first place among the abort strings of one that the octets end with.
     fn first_found(&self, steps: &[Step], octets: &[u8]) -> Option<usize>
         ensures place { result ≡ position (λ place. is_found octets.now (abort_at steps.now place)) self.now.aborts.items }

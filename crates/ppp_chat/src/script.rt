@@ -1,4 +1,4 @@
-ghost use Rattle.std.specs.Prelude.{◌≡◌, ℕ, map, length, IfErr};
+ghost use Rattle.std.specs.Prelude.{◌≡◌, ℕ, map, length, IfOk, IfErr};
 ghost use Rattle.std.specs.Global.{Vec};
 ghost use Rattle.ppp_chat.specs.Reading.{Gives, NamesWord};
 ghost use Rattle.ppp_chat.specs.Room.{AreFew};
@@ -10,6 +10,7 @@ use crate::fault::ScriptFault;
 use crate::step::Step;
 use crate::steps::Steps;
 use crate::word::{read_last, read_two};
+use ppp_base::NoMemory;
 use std::alloc::Global;
 use std::marker::Model;
 
@@ -58,6 +59,16 @@ impl Script {
             read_last(alloc, &mut steps, number, last.as_slice())?;
         }
         Ok(Script { steps, timeout_s })
+    }
+
+    /// The same script again.
+    pub fn copy(&self, alloc: Global) -> Result<Script, NoMemory>
+        ensures { IfOk result (λ script. script ≡ self.now) }
+    {
+        Ok(Script {
+            steps: self.steps.copy(alloc)?,
+            timeout_s: self.timeout_s,
+        })
     }
 
     // The steps.

@@ -1,4 +1,4 @@
-ghost use Rattle.std.specs.Prelude.{◌≡◌, [], ◌∷◌, ◌++◌, OnOk, IfErr, length};
+ghost use Rattle.std.specs.Prelude.{◌≡◌, [], ◌∷◌, ◌++◌, OnOk, IfOk, IfErr, length};
 ghost use Rattle.ppp_chat.specs.Room.{AreFew, HasRoom};
 ghost use Rattle.ppp_chat.specs.Settings.{aborts_of};
 ghost use Rattle.ppp_chat.specs.Steps.{directives_in};
@@ -7,6 +7,7 @@ ghost use Rattle.ppp_chat.specs.Texts.{AreShort, IsShort};
 use crate::directives::Directives;
 use crate::fault::ScriptFault;
 use crate::step::Step;
+use ppp_base::NoMemory;
 use std::alloc::Global;
 use std::marker::Model;
 
@@ -71,4 +72,25 @@ impl Steps {
     {
         self.steps.as_slice()
     }
+
+    /// The same steps again.
+    pub fn copy(&self, alloc: Global) -> Result<Steps, NoMemory>
+        ensures { IfOk result (λ steps. steps ≡ self.now) }
+    {
+        Ok(Steps {
+            steps: copied(alloc, self.steps.as_slice())?,
+            directives: self.directives.copy(),
+        })
+    }
+}
+
+// The same steps again.
+fn copied(alloc: Global, steps: &[Step]) -> Result<Vec<Step>, NoMemory>
+    ensures { IfOk result (λ copies. copies.items ≡ steps.now) }
+{
+    let mut copies = Vec::new(alloc);
+    for step in steps {
+        copies.push(step.copy(alloc)?)?;
+    }
+    Ok(copies)
 }

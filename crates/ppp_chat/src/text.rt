@@ -1,6 +1,8 @@
-ghost use Rattle.std.specs.Prelude.{◌≡◌, ◌≤◌, ◌==◌, length};
+ghost use Rattle.std.specs.Prelude.{◌≡◌, ◌≤◌, ◌==◌, length, IfOk};
 
 use crate::octets::MOST_SENT;
+use ppp_base::NoMemory;
+use std::alloc::Global;
 use std::marker::Model;
 
 /// A string of a script, read once, or octets that are sent. It is as long as it is, and contracts see it as its list.
@@ -41,5 +43,14 @@ impl Text {
         ensures within { length result.now ≤ MOST_SENT }
     {
         self.octets.as_slice()
+    }
+
+    /// The same octets again.
+    pub fn copy(&self, alloc: Global) -> Result<Text, NoMemory>
+        ensures { IfOk result (λ text. text ≡ self.now) }
+    {
+        Ok(Text {
+            octets: Vec::from_slice(alloc, self.octets.as_slice())?,
+        })
     }
 }
