@@ -1,3 +1,4 @@
 pub mod Calls
+pub mod OneMore
 pub mod Places
 pub mod Stands

@@ -163,6 +163,13 @@ impl<S: Spawner> HookMachine<S> {
         Ok(())
     }
 
+    /// Whose scripts they are.
+    pub fn target(&self) -> HookTarget
+        ensures { result ≡ self.now.target }
+    {
+        self.target
+    }
+
     /// The last start.
     pub fn last(&self) -> Option<HookStart>
         ensures value { option_map (λ (s : HookStart). (s.up, s.opening)) result ≡ option_map start_key self.now.facts.last }

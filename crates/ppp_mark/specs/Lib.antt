@@ -1,0 +1,5 @@
+pub mod Table
+pub mod Marks
+pub mod Log
+pub mod Scripts
+pub mod ScriptLog
