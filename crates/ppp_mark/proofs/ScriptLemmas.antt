@@ -1,6 +1,7 @@
 -- A machine goes on standing for what its log says.
 use Rattle.std.proofs.Common.{◌≡◌, ℕ, ◌+◌, ◌<◌, ◌≤◌, ◌⊎◌, inl, inr, Bool, true, false, Option, None, Some, List, [], ◌∷◌, ◌++◌, length, refl, ap, sym, ◌∙◌, subst, arith}
 use Rattle.std.specs.Prelude.{◌==◌, ◌↔◌, IsNone, is_some, reverse, ◌||◌, if◌then◌else◌}
+use Rattle.std.proofs.lemmas.Bool.Decides.{nat_tests}
 use Rattle.ppp_base.specs.declared.hook_target.HookTarget.{HookTarget}
 use Rattle.ppp_base.specs.declared.hook_target.HookTarget.TheVariants.{Link, Unit as OfUnit}
 use Rattle.ppp_outside.specs.declared.spawner.ScriptEnd.{ScriptEnd}
@@ -10,7 +11,7 @@ use Rattle.ppp_hooks.specs.declared.facts.Opening.{Opening}
 use Rattle.ppp_hooks.specs.declared.facts.Start.{Start}
 use Rattle.ppp_hooks.specs.HookFacts.{StandsFor, opening_number, settled, start_due, with_start}
 use Rattle.ppp_hooks.specs.HookMark.{HookMark, Opened, Closed, Started, Ended}
-use Rattle.ppp_hooks.specs.HookPast.{open_in, starts_in, ends_in, last_in}
+use Rattle.ppp_hooks.specs.HookPast.{open_in, starts_in, ends_in, not_started_in, last_in}
 use Rattle.ppp_hooks.specs.HookPlace.{AreStarts}
 use Rattle.ppp_hooks.specs.HookRule.{due_after, due_for, start_marks, with_due}
 use Rattle.ppp_hooks.specs.HookState.{HookState, DoneState}
@@ -20,7 +21,7 @@ use Rattle.ppp_mark.specs.declared.mark.Mark.{Mark}
 use Rattle.ppp_mark.specs.Log.{LogState}
 use Rattle.ppp_mark.specs.Marks.{ended_mark, started_mark}
 use Rattle.ppp_mark.specs.ScriptLog.{Grows, IsKept, IsRunningJob, KeepsLaw, closed_mark, opened_mark, with_due_mark}
-use Rattle.ppp_mark.specs.Scripts.{AreUpOrDown, is_open_kind, is_closed_kind, due_marks, marks_at, said_in, said_with, says_scripts}
+use Rattle.ppp_mark.specs.Scripts.{AreUpOrDown, KeepsRunning, is_open_kind, is_closed_kind, due_marks, marks_at, said_in, said_with, says_scripts}
 use Rattle.ppp_mark.specs.declared.script_log.TheConstants.{MOST_LIMIT}
 
 -- what is due is starts
@@ -209,3 +210,30 @@ grows_by time m log = record {
 pub said_after : (time : ℕ) (m : Mark) (h : HookMark) (log : LogState) → said_with m (said_in log.past) ≡ h ∷ said_in log.past
     → said_in (with_due_mark time m log).past ≡ with_due (h ∷ said_in log.past)
 said_after time m h log told = said-due time (m ∷ log.past) ∙ ap with_due told
+
+-- an opening or a closing lets a running job go on
+same_jobs : (hooks : List HookMark) → ends_in hooks < starts_in hooks → with_due hooks ≡ hooks
+same_jobs hooks runs = grind (arith, nat_tests)
+
+due-ends : (starts past : List HookMark) → AreStarts starts → (ends_in (starts ++ past) ≡ ends_in past) × (not_started_in (starts ++ past) ≡ not_started_in past)
+due-ends [] past a = (refl, refl)
+due-ends (Opened n ∷ starts) past a = absurd a
+due-ends (Closed n ∷ starts) past a = absurd a
+due-ends (Started up n ∷ starts) past a = due-ends starts past a
+due-ends (Ended answer job ∷ starts) past a = absurd a
+
+pub opening_keeps : (n : ℕ) (hooks new : List HookMark) → new ≡ with_due (Opened n ∷ hooks) → KeepsRunning hooks new
+opening_keeps n hooks new is =
+    let ends = due-ends (due_after (Opened n ∷ hooks)) (Opened n ∷ hooks) (due-starts (Opened n ∷ hooks)) in record {
+      starts = λ runs. ap starts_in is ∙ ap starts_in (same_jobs (Opened n ∷ hooks) runs);
+      ends = ap ends_in is ∙ ends.0;
+      not_started = ap not_started_in is ∙ ends.1;
+    }
+
+pub closing_keeps : (n : ℕ) (hooks new : List HookMark) → new ≡ with_due (Closed n ∷ hooks) → KeepsRunning hooks new
+closing_keeps n hooks new is =
+    let ends = due-ends (due_after (Closed n ∷ hooks)) (Closed n ∷ hooks) (due-starts (Closed n ∷ hooks)) in record {
+      starts = λ runs. ap starts_in is ∙ ap starts_in (same_jobs (Closed n ∷ hooks) runs);
+      ends = ap ends_in is ∙ ends.0;
+      not_started = ap not_started_in is ∙ ends.1;
+    }

@@ -1,10 +1,11 @@
 -- What the marks of a log say of site scripts (pppd(8), "Scripts"). Here the newest mark comes first.
 -- It is the one reading of kinds: a link's scripts go by what its peer has proved, a unit's by IP.
-use Rattle.std.specs.Prelude.{ℕ, ◌==◌, ◌≡◌, ◌||◌, ◌⊎◌, Bool, List, [], ◌∷◌, ⊤, reverse, if◌then◌else◌}
+use Rattle.std.specs.Prelude.{ℕ, ◌==◌, ◌<◌, ◌≡◌, ◌||◌, ◌⊎◌, Bool, List, [], ◌∷◌, ⊤, reverse, if◌then◌else◌}
 use Rattle.ppp_outside.specs.declared.spawner.ScriptEnd.{ScriptEnd}
 use Rattle.ppp_outside.specs.declared.spawner.ScriptEnd.TheVariants.{Exit, Killed, NotStarted}
 use Rattle.ppp_hooks.specs.HookLaw.{HookLaw}
 use Rattle.ppp_hooks.specs.HookMark.{HookMark, Opened, Closed, Started, Ended}
+use Rattle.ppp_hooks.specs.HookPast.{ends_in, not_started_in, starts_in}
 use Rattle.ppp_hooks.specs.HookRule.{due_after}
 use Rattle.ppp_hooks.specs.Settled.{Settled}
 use Rattle.ppp_mark.specs.declared.mark.Mark.{Mark}
@@ -63,3 +64,9 @@ marks_at time (Ended answer job ∷ hooks) = marks_at time hooks
 -- the mark of the start that is due after these marks, if one is
 abbrev pub due_marks : ℕ → List Mark → List Mark
 due_marks time past = marks_at time (due_after (said_in past))
+
+-- A job that runs goes on: nothing is started, and nothing ends.
+pub record KeepsRunning (old new : List HookMark) : Type 0 where
+  pub starts : ends_in old < starts_in old → starts_in new ≡ starts_in old
+  pub ends : ends_in new ≡ ends_in old
+  pub not_started : not_started_in new ≡ not_started_in old

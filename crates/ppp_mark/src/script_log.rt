@@ -10,7 +10,7 @@ ghost use Rattle.ppp_hooks.specs.HookWords.{words_in};
 ghost use Rattle.ppp_mark.specs.Log.{added, no_marks, room_of};
 ghost use Rattle.ppp_mark.specs.Marks.{local_mark, remote_mark};
 ghost use Rattle.ppp_mark.specs.ScriptLog.{Grows, IsKept, IsRunningJob, KeepsLaw, ScriptLogState, closed_mark, log_closed, log_ended, log_opened, next_opening, opened_mark, running_in, with_due_mark};
-ghost use Rattle.ppp_mark.specs.Scripts.{marks_at, said_in, says_scripts};
+ghost use Rattle.ppp_mark.specs.Scripts.{KeepsRunning, marks_at, said_in, says_scripts};
 ghost use Rattle.ppp_mark.specs.Table.{is_kind};
 
 use crate::log::Log;
@@ -91,6 +91,7 @@ fn open_scripts<S: Spawner>(
     ensures log { log.new ≡ log_opened machine.old.target time log.old }
     ensures kept { IsKept machine.new log.new }
     ensures said { said_in log.new.past ≡ with_due (Opened (next_opening log.old) ∷ said_in log.old.past) }
+    ensures running { KeepsRunning (said_in log.old.past) (said_in log.new.past) }
     ensures told { (before : List Ran) (given : ℕ → HookArgs) → MachineTells S.runs before given (said_in log.old.past) machine.old
         → MachineTells S.runs before given (said_in log.new.past) machine.new }
     ensures out { (before : List Ran) (given : ℕ → HookArgs) (job : JobState S) → machine.old.spawner ≡ None
@@ -117,6 +118,7 @@ fn close_scripts<S: Spawner>(
     ensures log { log.new ≡ with_due_mark time (closed_mark machine.old.target time opening) log.old }
     ensures kept { IsKept machine.new log.new }
     ensures said { said_in log.new.past ≡ with_due (Closed opening ∷ said_in log.old.past) }
+    ensures running { KeepsRunning (said_in log.old.past) (said_in log.new.past) }
     ensures told { (before : List Ran) (given : ℕ → HookArgs) → MachineTells S.runs before given (said_in log.old.past) machine.old
         → MachineTells S.runs before given (said_in log.new.past) machine.new }
     ensures out { (before : List Ran) (given : ℕ → HookArgs) (job : JobState S) → machine.old.spawner ≡ None
@@ -194,6 +196,7 @@ impl<S: Spawner> ScriptLog<S> {
         ensures stands { IsKept self.new.machine self.new.log }
         ensures grows { Grows 2 self.old.log self.new.log }
         ensures said { said_in self.new.log.past ≡ with_due (Opened (next_opening self.old.log) ∷ said_in self.old.log.past) }
+        ensures running { KeepsRunning (said_in self.old.log.past) (said_in self.new.log.past) }
         ensures args { (given : ℕ → HookArgs) → HasArgs given self.old.machine.facts → given (next_opening self.old.log) ≡ args → HasArgs given self.new.machine.facts }
         ensures told { (before : List Ran) (given : ℕ → HookArgs) → MachineTells S.runs before given (said_in self.old.log.past) self.old.machine
             → MachineTells S.runs before given (said_in self.new.log.past) self.new.machine }
@@ -214,6 +217,7 @@ impl<S: Spawner> ScriptLog<S> {
         ensures grows { Grows 2 self.old.log self.new.log }
         ensures said { (n : ℕ) → open_in (said_in self.old.log.past) ≡ Some n → said_in self.new.log.past ≡ with_due (Closed n ∷ said_in self.old.log.past) }
         ensures shut { open_in (said_in self.new.log.past) ≡ None }
+        ensures running { KeepsRunning (said_in self.old.log.past) (said_in self.new.log.past) }
         ensures args { (given : ℕ → HookArgs) → HasArgs given self.old.machine.facts → HasArgs given self.new.machine.facts }
         ensures told { (before : List Ran) (given : ℕ → HookArgs) → MachineTells S.runs before given (said_in self.old.log.past) self.old.machine
             → MachineTells S.runs before given (said_in self.new.log.past) self.new.machine }

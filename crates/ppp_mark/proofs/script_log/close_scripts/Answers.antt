@@ -3,7 +3,7 @@ use Rattle.ppp_hooks.specs.HookFacts.{with_closed}
 use Rattle.ppp_hooks.specs.HookMark.{Closed}
 use Rattle.ppp_mark.specs.ScriptLog.{closed_mark, with_due_mark}
 use Rattle.ppp_mark.specs.Scripts.{said_in}
-use Rattle.ppp_mark.proofs.ScriptLemmas.{closed-no-start, kept_on, said_after, said-closed, written}
+use Rattle.ppp_mark.proofs.ScriptLemmas.{closed-no-start, closing_keeps, kept_on, said_after, said-closed, written}
 use Rattle.ppp_mark.proofs.script_log.close_scripts.Goals as goal
 
 is_written : goal.returns-clause-log
@@ -50,3 +50,6 @@ returns-clause-told g c = λ before given tells.
 pub returns-clause-out : goal.returns-clause-out
 returns-clause-out g c = λ before given job none last.
     rw (is_said g c) (c.closed.ensures.out before given (said_in c.args.log.now.past) c.args.opening job c.requires.kept.stands none last)
+
+pub returns-clause-running : goal.returns-clause-running
+returns-clause-running g c = closing_keeps c.args.opening (said_in c.args.log.now.past) _ (is_said g c)

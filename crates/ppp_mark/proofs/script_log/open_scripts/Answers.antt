@@ -3,7 +3,7 @@ use Rattle.ppp_hooks.specs.HookFacts.{with_open}
 use Rattle.ppp_hooks.specs.HookMark.{Opened}
 use Rattle.ppp_mark.specs.ScriptLog.{log_opened, next_opening, opened_mark}
 use Rattle.ppp_mark.specs.Scripts.{said_in}
-use Rattle.ppp_mark.proofs.ScriptLemmas.{is_shut, kept_on, said_after, opened-no-start, said-opened, written}
+use Rattle.ppp_mark.proofs.ScriptLemmas.{is_shut, kept_on, opening_keeps, said_after, opened-no-start, said-opened, written}
 use Rattle.ppp_mark.proofs.script_log.open_scripts.Goals as goal
 
 pub returns-clause-machine : goal.returns-clause-machine
@@ -64,3 +64,6 @@ returns-clause-out g c = λ before given job none last.
     let hooks = said_in old.past in
     let number : c.greatest-opening.result + 1 ≡ next_opening old = ap (λ k. k + 1) (c.greatest-opening.ensures.of_past hooks c.requires.kept.stands) in
     rw (is_said g c, ← number) (c.opened.ensures.out before given hooks job c.requires.kept.stands none last)
+
+pub returns-clause-running : goal.returns-clause-running
+returns-clause-running g c = opening_keeps (next_opening c.args.log.now) (said_in c.args.log.now.past) _ (is_said g c)

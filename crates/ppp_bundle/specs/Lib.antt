@@ -1,0 +1,3 @@
+pub use Rattle.ppp_mark.specs.Scripts
+pub mod Acts
+pub mod Bare
