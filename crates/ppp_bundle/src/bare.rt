@@ -6,11 +6,11 @@ ghost use Rattle.ppp_fsm.specs.Fsm.{acts_of, after};
 ghost use Rattle.ppp_fsm.specs.Opening.{layer_change};
 ghost use Rattle.ppp_hooks.specs.HookMark.{Ended};
 ghost use Rattle.ppp_hooks.specs.HookFacts.{no_facts};
-ghost use Rattle.ppp_hooks.specs.HookPast.{ends_in, last_in, not_started_in, starts_in};
+ghost use Rattle.ppp_hooks.specs.HookPast.{ends_in, last_in, not_started_in, running_in, starts_in};
 ghost use Rattle.ppp_hooks.specs.HookRule.{with_due};
 ghost use Rattle.ppp_hooks.specs.HookWords.{words_in};
 ghost use Rattle.ppp_mark.specs.Log.{no_marks, room_of};
-ghost use Rattle.ppp_mark.specs.ScriptLog.{Grows, IsRunningJob, log_ended, running_in};
+ghost use Rattle.ppp_mark.specs.ScriptLog.{Grows, IsRunningJob, log_ended};
 ghost use Rattle.ppp_mark.specs.Scripts.{KeepsRunning, said_in};
 
 use ppp_base::{HookTarget, Name, NoMemory, Unit};
@@ -165,7 +165,7 @@ impl<S: Spawner> Bare<S> {
 
     /// The number of the job that runs, from its start to its end.
     pub fn running(&self) -> Option<u32>
-        ensures { result ≡ running_in self.now.scripts.log.past }
+        ensures { result ≡ running_in (said_in self.now.scripts.log.past) }
     {
         self.scripts.running()
     }

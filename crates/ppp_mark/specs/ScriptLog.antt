@@ -1,5 +1,5 @@
 -- A machine of site scripts together with a log. What the machine does the log has, and the log has other marks too.
-use Rattle.std.specs.Prelude.{ℕ, ◌+◌, ◌≤◌, ◌≡◌, Bool, Option, None, Some, List, [], ◌∷◌, ◌++◌, is_some, length, nat_lt, if◌then◌else◌}
+use Rattle.std.specs.Prelude.{ℕ, ◌+◌, ◌≤◌, ◌≡◌, Bool, Option, None, Some, List, [], ◌∷◌, ◌++◌, is_some, length}
 use Rattle.ppp_base.specs.declared.hook_target.HookTarget.{HookTarget}
 use Rattle.ppp_base.specs.declared.hook_target.HookTarget.TheVariants.{Link, Unit as OfUnit}
 use Rattle.ppp_outside.specs.declared.spawner.ScriptEnd.{ScriptEnd}
@@ -61,10 +61,6 @@ log_closed target time log = log_closed_at target time (open_in (said_in log.pas
 -- the running job has ended
 abbrev pub log_ended : ℕ → ScriptEnd → LogState → LogState
 log_ended time answer log = with_due_mark time (ended_mark time answer (ends_in (said_in log.past) + 1)) log
-
--- the job that runs
-abbrev pub running_in : List Mark → Option ℕ
-running_in past = if nat_lt (ends_in (said_in past)) (starts_in (said_in past)) then Some (starts_in (said_in past)) else None
 
 -- What comes back is the job that was taken and runs, as the log has it.
 pub record IsRunningJob {S : Type 0} (done : DoneState S) (old : ScriptLogState S) : Type 0 where

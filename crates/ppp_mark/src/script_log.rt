@@ -1,15 +1,15 @@
 ghost use Rattle.std.specs.Prelude.{◌≡◌, ℕ, ◌+◌, ◌^◌, ◌<◌, ◌≤◌, ◌↔◌, true, false, ◌==◌, if◌then◌else◌, [], ◌∷◌, ◌++◌, None, Some, is_some, List, length, option_map, IsSome, IfSome, IfNone, OnSome, IfOk, OnOk, OnErr, IsOk, IfErr};
 ghost use Rattle.ppp_hooks.specs.HookCounts.{MachineCounts, JobCounts, DoneCounts};
-ghost use Rattle.ppp_hooks.specs.HookFacts.{HasArgs, StandsFor, no_facts, opening_number, settled, start_mark, with_closed, with_end, with_open};
+ghost use Rattle.ppp_hooks.specs.HookFacts.{HasArgs, no_facts, opening_number, settled, start_mark, with_closed, with_end, with_open};
 ghost use Rattle.ppp_hooks.specs.HookMark.{Opened, Closed, Ended};
-ghost use Rattle.ppp_hooks.specs.HookPast.{ends_in, greatest_in, last_in, not_started_in, open_in, starts_in};
+ghost use Rattle.ppp_hooks.specs.HookPast.{ends_in, last_in, not_started_in, open_in, running_in, starts_in};
 ghost use Rattle.ppp_hooks.specs.HookRule.{with_due};
 ghost use Rattle.ppp_hooks.specs.HookRuns.{GivenLast, IsFaithful, MachineTells};
 ghost use Rattle.ppp_hooks.specs.HookState.{JobState};
 ghost use Rattle.ppp_hooks.specs.HookWords.{words_in};
 ghost use Rattle.ppp_mark.specs.Log.{added, no_marks, room_of};
 ghost use Rattle.ppp_mark.specs.Marks.{local_mark, remote_mark};
-ghost use Rattle.ppp_mark.specs.ScriptLog.{Grows, IsKept, IsRunningJob, KeepsLaw, ScriptLogState, closed_mark, log_closed, log_ended, log_opened, next_opening, opened_mark, running_in, with_due_mark};
+ghost use Rattle.ppp_mark.specs.ScriptLog.{Grows, IsKept, IsRunningJob, KeepsLaw, closed_mark, log_closed, log_ended, log_opened, next_opening, opened_mark, with_due_mark};
 ghost use Rattle.ppp_mark.specs.Scripts.{KeepsRunning, marks_at, said_in, says_scripts};
 ghost use Rattle.ppp_mark.specs.Table.{is_kind};
 
@@ -321,7 +321,7 @@ impl<S: Spawner> ScriptLog<S> {
 
     /// The number of the job that runs, from its start to its end.
     pub fn running(&self) -> Option<u32>
-        ensures { result ≡ running_in self.now.log.past }
+        ensures { result ≡ running_in (said_in self.now.log.past) }
     {
         self.machine.running()
     }
