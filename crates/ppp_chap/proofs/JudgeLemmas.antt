@@ -1,17 +1,17 @@
 -- A judge's outcome is what the first response says, or that none came.
 use Rattle.std.proofs.Common.{◌≡◌, ℕ, ◌+◌, ◌≤◌, Bool, true, false, ◌⊎◌, inl, inr, List, [], ◌∷◌, ◌++◌, length, Option, None, Some, refl, sym, ap, ◌∙◌, subst, arith}
-use Rattle.std.specs.Prelude.{◌==◌, ◌&&◌, is_some, if◌then◌else◌}
+use Rattle.std.specs.Prelude.{◌==◌, ◌&&◌, if◌then◌else◌}
 use Rattle.std.proofs.lemmas.Bool.{and_parts}
 use Rattle.std.proofs.lemmas.Bool.Decides.{Decides-eqb}
 use Rattle.ppp_packet.specs.declared.packet.Packet.{Packet}
 use Rattle.ppp_packet.specs.declared.auth_out.AuthOutcome.{AuthOutcome}
 use Rattle.ppp_packet.specs.declared.auth_out.AuthOutcome.TheVariants.{Waiting, Passed, Refused, Unanswered}
 use Rattle.ppp_proving.specs.Calls.{Against, AuthCall, begins, hears, ticks, Answered, is_own, is_waiting, sent_at, where_sent}
-use Rattle.ppp_proving.specs.Own.{IsAlways, SendsOwn}
-use Rattle.ppp_proving.specs.Resending.{again_at, last_of, unanswered}
+use Rattle.ppp_proving.specs.Own.{SendsOwn}
+use Rattle.ppp_proving.specs.Resending.{again_at, last_of, own_sent, unanswered}
 use Rattle.ppp_proving.specs.Which.{NoneOf, IsFirst, Tires}
 use Rattle.ppp_proving.proofs.Judging.{Judges, waiting_none, none_waiting, stays, first_says, said_first}
-use Rattle.ppp_proving.proofs.Sending.{Few, none_few, begin_few, tick_few, first_is, again_is, time_says}
+use Rattle.ppp_proving.proofs.Sending.{OwnSent, sends_own, time_says}
 use Rattle.ppp_chap.specs.Packets.{challenge_packet, response_packet, valued_of}
 use Rattle.ppp_chap.specs.Passes.{Passes, passing_line}
 use Rattle.ppp_chap.specs.Judge.{AreLawful, judged, judged_by, outcome_in, response_in, said_by, sends}
@@ -25,6 +25,22 @@ response_read p a name value r =
     let heard = r.heard in
     let packets : p ≡ response_packet 1 value name = cc heard in
     ap response_in packets ∙ body_is_valued value name r.fits
+
+-- a packet that is read as a response is one
+pub read_responds : (p : Packet) (a : Against) (response : List ℕ × List ℕ) → response_in p ≡ Some response → Responds (hears p a) a response.1 response.0
+read_responds p a response e = go (p.code == 2 && p.id == 1) refl e
+  where
+    go : (test : Bool) → (p.code == 2 && p.id == 1) ≡ test → (if test then valued_of p.body else None) ≡ Some response → Responds (hears p a) a response.1 response.0
+    go false t e = absurd cc
+    go true t e =
+        let tests = and_parts (p.code == 2) (p.id == 1) t in
+        let body = valued_is_body p.body response.0 response.1 e in
+        let packets : p ≡ response_packet 1 response.0 response.1 =
+        ap (λ n. record { code = n; id = p.id; body = p.body }) ((Decides-eqb p.code 2).0 tests.0)
+        ∙ ap (λ n. record { code = 2; id = n; body = p.body }) ((Decides-eqb p.id 1).0 tests.1)
+        ∙ ap (λ octets. record { code = 2; id = 1; body = octets }) body.0
+        in
+        record { heard = ap (λ q. hears q a) packets; fits = body.1 }
 
 not_tired : (now : ℕ) (p : Packet) (a : Against) (packet : Option Packet) (outcome : AuthOutcome) (past : List Answered)
     → Tires (record { now = now; call = hears p a; packet = packet; outcome = outcome }) past → ⊥
@@ -71,21 +87,6 @@ heard_learnt challenge now p a packet outcome past = by_sent (sent_at past) refl
         absurd (cc (e, read))
     not_read e (inr t) = not_tired now p a packet outcome past t
 
-    read_is : (response : List ℕ × List ℕ) → response_in p ≡ Some response → Responds (hears p a) a response.1 response.0
-    read_is response e = go (p.code == 2 && p.id == 1) refl e
-      where
-        go : (test : Bool) → (p.code == 2 && p.id == 1) ≡ test → (if test then valued_of p.body else None) ≡ Some response → Responds (hears p a) a response.1 response.0
-        go false t e = absurd cc
-        go true t e =
-            let tests = and_parts (p.code == 2) (p.id == 1) t in
-            let body = valued_is_body p.body response.0 response.1 e in
-            let packets : p ≡ response_packet 1 response.0 response.1 =
-            ap (λ n. record { code = n; id = p.id; body = p.body }) ((Decides-eqb p.code 2).0 tests.0)
-            ∙ ap (λ n. record { code = 2; id = n; body = p.body }) ((Decides-eqb p.id 1).0 tests.1)
-            ∙ ap (λ octets. record { code = 2; id = 1; body = octets }) body.0
-            in
-            record { heard = ap (λ q. hears q a) packets; fits = body.1 }
-
     by_found : (last : ℕ) (earlier : List ℕ) → sent_at past ≡ last ∷ earlier → (found : Option (List ℕ × List ℕ)) → response_in p ≡ found
         → Learnt challenge (record { now = now; call = hears p a; packet = packet; outcome = outcome }) past (judged challenge a found)
         ⊎ Unlearnt (record { now = now; call = hears p a; packet = packet; outcome = outcome }) past (judged challenge a found)
@@ -96,7 +97,7 @@ heard_learnt challenge now p a packet outcome past = by_sent (sent_at past) refl
         against = a;
         name = response.1;
         value = response.0;
-        responds = read_is response e;
+        responds = read_responds p a response e;
       });
       speaks = judged_known response.1 _;
     })
@@ -290,36 +291,16 @@ first_tired challenge past times e f =
     ∙ tired_says challenge f.call.now f.call.call (sent_at f.earlier) f.tires.ticks_now f.tires.ten f.tires.over
     ∙ ap (λ n. Unanswered n) (sym e)
 
+own_is : (name challenge : List ℕ) (past : List Answered) (now : ℕ) (call : AuthCall) → is_own call ≡ true
+    → sends name challenge past now call ≡ own_sent (challenge_packet challenge name) (outcome_in challenge past) past now call
+own_is name challenge past now begins o = refl
+own_is name challenge past now (hears p a) o = absurd cc
+own_is name challenge past now ticks o = refl
+
+owns : (name challenge : List ℕ) (past : List Answered) → AreLawful name challenge past → OwnSent (challenge_packet challenge name) (outcome_in challenge) past
+owns name challenge [] l = tt
+owns name challenge (h ∷ past) l = (λ o. l.0.packet ∙ own_is name challenge past h.now h.call o, owns name challenge past l.1)
+
 -- what is sent of our own accord
-few_more : (name challenge : List ℕ) (now : ℕ) (call : AuthCall) (packet : Option Packet) (outcome : AuthOutcome) (past : List Answered)
-    → packet ≡ sends name challenge past now call → Few (sent_at past) → Few (sent_at (record { now = now; call = call; packet = packet; outcome = outcome } ∷ past))
-few_more name challenge now begins packet outcome past e f =
-    subst (λ (p : Option Packet). Few (if is_some p then now ∷ sent_at past else sent_at past)) (sym e) (begin_few now (sent_at past) (challenge_packet challenge name) f)
-few_more name challenge now (hears p a) packet outcome past e f = f
-few_more name challenge now ticks packet outcome past e f =
-    subst (λ (p : Option Packet). Few (if is_some p then now ∷ sent_at past else sent_at past)) (sym e)
-    (tick_few now (sent_at past) (challenge_packet challenge name) (is_waiting (outcome_in challenge past)) f)
-
-few : (name challenge : List ℕ) (past : List Answered) → AreLawful name challenge past → Few (sent_at past)
-few name challenge [] l = none_few
-few name challenge (h ∷ past) l = few_more name challenge h.now h.call h.packet h.outcome past l.0.packet (few name challenge past l.1)
-
-either_is : (own : Packet) (packet sent : Option Packet) → packet ≡ sent → (sent ≡ None) ⊎ (sent ≡ Some own) → (packet ≡ None) ⊎ (packet ≡ Some own)
-either_is own packet sent e (inl n) = inl (e ∙ n)
-either_is own packet sent e (inr s) = inr (e ∙ s)
-
-own_is : (name challenge : List ℕ) (now : ℕ) (call : AuthCall) (packet : Option Packet) (past : List Answered)
-    → packet ≡ sends name challenge past now call → is_own call ≡ true → (packet ≡ None) ⊎ (packet ≡ Some (challenge_packet challenge name))
-own_is name challenge now begins packet past e o = either_is _ packet _ e (first_is (sent_at past) (challenge_packet challenge name))
-own_is name challenge now (hears p a) packet past e o = absurd cc
-own_is name challenge now ticks packet past e o =
-    either_is _ packet _ e (again_is (is_waiting (outcome_in challenge past)) (again_at now (sent_at past)) (challenge_packet challenge name))
-
-always : (name challenge : List ℕ) (past : List Answered) → AreLawful name challenge past → IsAlways (challenge_packet challenge name) past
-always name challenge [] l = tt
-always name challenge (h ∷ past) l = (λ o. own_is name challenge h.now h.call h.packet past l.0.packet o, always name challenge past l.1)
-
-pub sends_own : (name challenge : List ℕ) (past : List Answered) → AreLawful name challenge past → SendsOwn (challenge_packet challenge name) past
-sends_own name challenge past l =
-    let f = few name challenge past l in
-    record { same = always name challenge past l; few = f.few; apart = f.apart }
+pub few_challenges : (name challenge : List ℕ) (past : List Answered) → AreLawful name challenge past → SendsOwn (challenge_packet challenge name) (outcome_in challenge) past
+few_challenges name challenge past l = sends_own (challenge_packet challenge name) (outcome_in challenge) past (owns name challenge past l)

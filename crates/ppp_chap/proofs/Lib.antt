@@ -1,3 +1,4 @@
+pub mod AnswerLemmas
 pub mod JudgeLemmas
 pub mod JudgeRuns
 pub mod PacketLemmas

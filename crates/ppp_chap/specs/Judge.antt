@@ -3,8 +3,8 @@ use Rattle.std.specs.Prelude.{ℕ, ◌≡◌, ◌==◌, ◌&&◌, Option, Some, 
 use Rattle.ppp_packet.specs.declared.packet.Packet.{Packet}
 use Rattle.ppp_packet.specs.declared.auth_out.AuthOutcome.{AuthOutcome}
 use Rattle.ppp_packet.specs.declared.auth_out.AuthOutcome.TheVariants.{Waiting, Passed, Refused, Unanswered}
-use Rattle.ppp_proving.specs.Calls.{Against, AuthCall, begins, hears, ticks, Answered, sent_at, first_of, is_waiting, where_sent}
-use Rattle.ppp_proving.specs.Resending.{Sendings, again, again_at, first_time, sendings_of, unanswered}
+use Rattle.ppp_proving.specs.Calls.{Against, AuthCall, begins, hears, ticks, Answered, sent_at, first_of, where_sent}
+use Rattle.ppp_proving.specs.Resending.{Sendings, again_at, own_sent, sendings_of, unanswered}
 use Rattle.ppp_chap.specs.Packets.{challenge_packet, result_packet, valued_of}
 use Rattle.ppp_chap.specs.Passes.{passing_line}
 
@@ -40,13 +40,12 @@ verdict_packet (Unanswered times) = None
 
 -- The challenge goes out as the authentication begins, and again while there is no outcome; it is always the same.
 abbrev pub sends : List ℕ → List ℕ → List Answered → ℕ → AuthCall → Option Packet
-sends name challenge past now begins = first_time (sent_at past) (challenge_packet challenge name)
+sends name challenge past now begins = own_sent (challenge_packet challenge name) (outcome_in challenge past) past now begins
 sends name challenge past now (hears p a) =
     if is_some (response_in p)
     then verdict_packet (first_of (outcome_in challenge past) (said_by challenge (sent_at past) now (hears p a)))
     else None
-sends name challenge past now ticks =
-    if is_waiting (outcome_in challenge past) then again (again_at now (sent_at past)) (challenge_packet challenge name) else None
+sends name challenge past now ticks = own_sent (challenge_packet challenge name) (outcome_in challenge past) past now ticks
 
 -- A call's answer, after these calls.
 pub record IsLawful (name challenge : List ℕ) (h : Answered) (past : List Answered) : Type 0 where

@@ -1,7 +1,7 @@
 -- The calls in which a judge of CHAP learns something (RFC 1994, section 4.1).
-use Rattle.std.specs.Prelude.{ℕ, ◌≡◌, ◌≤◌, ◌⊎◌, List, length}
+use Rattle.std.specs.Prelude.{ℕ, ◌≡◌, ◌≤◌, ◌⊎◌, ◌∷◌, List, length}
 use Rattle.ppp_proving.specs.Calls.{Against, AuthCall, hears, Answered, sent_at}
-use Rattle.ppp_proving.specs.Which.{IsFirst, Tires}
+use Rattle.ppp_proving.specs.Which.{IsFirst, NoneOf, Tires}
 use Rattle.ppp_chap.specs.Packets.{response_packet}
 
 -- A response to our challenge, whose identifier is 1, is heard, of this name and this value, against these lines and our name.
@@ -34,3 +34,8 @@ pub record FirstTires (past : List Answered) : Type 0 where
   pub earlier : List Answered
   pub first : IsFirst IsKnown past call earlier
   pub tires : Tires call earlier
+
+-- It is no response, or one that comes before our challenge was sent or after it was given up.
+abbrev pub GoesUnanswered : Answered → List Answered → Type 0
+GoesUnanswered h past =
+    ((a : Against) (name value : List ℕ) → Responds h.call a name value → ⊥) ⊎ (NoneOf IsKnown (h ∷ past) ⊎ FirstTires (h ∷ past))

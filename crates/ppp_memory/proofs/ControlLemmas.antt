@@ -1,11 +1,10 @@
 -- What one call of a control in memory does to what it tells.
-use Rattle.std.proofs.Common.{◌≡◌, ℕ, List, [], ◌∷◌, Option, Some, None, Bool, true, false, if◌then◌else◌, filter_map, refl, rules}
+use Rattle.std.proofs.Common.{ℕ, List, [], ◌∷◌, Option, Some, None, Bool, true, false, if◌then◌else◌, filter_map, refl, rules}
 use Rattle.std.specs.List.{cons_option}
 use Rattle.ppp_base.specs.declared.signal_word.SignalWord.{SignalWord}
 use Rattle.ppp_outside.specs.Calls.{is_listed}
 use Rattle.ppp_outside.specs.Control.{HearsWord, failed, is_end, is_signal}
 use Rattle.ppp_outside.specs.Counts.{counted}
-use Rattle.ppp_outside.specs.declared.control.Word.{Word}
 use Rattle.ppp_outside.specs.declared.control.Word.TheVariants as word
 use Rattle.ppp_memory.specs.Control.{ControlInMemory, after_next, answer_of, heard_as, signal_of, signal_or_quiet, state_of}
 

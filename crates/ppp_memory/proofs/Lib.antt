@@ -5,3 +5,4 @@ pub mod IfaceLemmas
 pub mod KeptLemmas
 pub mod LineLemmas
 pub mod PlaceLemmas
+mod Rows

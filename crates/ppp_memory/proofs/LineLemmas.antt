@@ -1,5 +1,5 @@
 -- What one read of a line in memory does to what it tells.
-use Rattle.std.proofs.Common.{◌≡◌, ℕ, ◌+◌, ◌-◌, ◌<◌, ◌≤◌, List, [], ◌∷◌, ◌++◌, length, take, drop, Option, Some, None, Bool, true, false, ◌||◌, if◌then◌else◌, ◌∙◌, ap, sym, subst, refl, rules, arith}
+use Rattle.std.proofs.Common.{◌≡◌, ℕ, ◌≤◌, List, [], ◌∷◌, ◌++◌, length, take, drop, Option, Some, None, Bool, true, false, ◌||◌, if◌then◌else◌, ◌∙◌, ap, sym, subst, refl, rules, arith}
 use Rattle.std.proofs.lemmas.List.{take-append-drop, length-append, length-drop, length-take-le, take_at}
 use Rattle.ppp_outside.specs.Contents.{GrowsBy, GrowsWhereTold}
 use Rattle.ppp_outside.specs.Counts.{raised}

@@ -1,5 +1,5 @@
 -- What contracts see of a clock in memory.
-use Rattle.std.specs.Prelude.{ℕ, ◌+◌, ◌-◌, Bool, List, ◌∷◌, length, take, min, max, nat_lt, not, ◌||◌, if◌then◌else◌, slice_index, Some, None}
+use Rattle.std.specs.Prelude.{ℕ, ◌+◌, Bool, List, ◌∷◌, length, take, min, max, nat_lt, ◌||◌, if◌then◌else◌, slice_index, Some, None}
 use Rattle.ppp_outside.specs.Clock.{ClockState}
 
 -- the first reading and those after it, how many were given, whether there was a call after the last one, and the greatest

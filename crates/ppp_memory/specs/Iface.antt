@@ -1,5 +1,5 @@
 -- What contracts see of the two halves of a packet socket in memory.
-use Rattle.std.specs.Prelude.{ℕ, Bool, List, [], ◌∷◌, ◌++◌, Option, Some, None, length, drop, filter_map, nat_lt, nat_le, not, ◌&&◌, ◌||◌, if◌then◌else◌}
+use Rattle.std.specs.Prelude.{ℕ, List, [], ◌∷◌, ◌++◌, Option, Some, None, length, drop, filter_map, nat_lt, nat_le, not, ◌&&◌, ◌||◌, if◌then◌else◌}
 use Rattle.ppp_outside.specs.Calls.{is_listed}
 use Rattle.ppp_outside.specs.Counts.{counted, raised}
 use Rattle.ppp_outside.specs.Iface.{IfaceInState, IfaceOutState, failed, give_failed, is_packet, written_by}

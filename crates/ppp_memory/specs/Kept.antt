@@ -1,5 +1,5 @@
 -- The answers of a line in memory, which keeps for each the place and the count of its octets.
-use Rattle.std.specs.Prelude.{ℕ, List, take, drop, map}
+use Rattle.std.specs.Prelude.{ℕ, List, drop, map}
 use Rattle.ppp_outside.specs.Line.{answer_with}
 use Rattle.ppp_outside.specs.declared.line_in.LineAnswer.{LineAnswer}
 use Rattle.ppp_memory.specs.declared.kept_answer.KeptAnswer.{KeptAnswer}

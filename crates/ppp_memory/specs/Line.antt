@@ -1,5 +1,5 @@
 -- What contracts see of the reading half of a line in memory.
-use Rattle.std.specs.Prelude.{◌≡◌, ℕ, ◌<◌, ◌≤◌, Bool, true, false, List, [], ◌∷◌, ◌++◌, length, take, drop, min, nat_eq, nat_lt, not, ◌||◌, Option, Some, None, if◌then◌else◌}
+use Rattle.std.specs.Prelude.{◌≡◌, ℕ, ◌<◌, ◌≤◌, Bool, true, false, List, [], ◌∷◌, ◌++◌, length, take, drop, min, nat_eq, nat_lt, not, ◌||◌, Some, None, if◌then◌else◌}
 use Rattle.ppp_outside.specs.Calls.{is_listed}
 use Rattle.ppp_outside.specs.Counts.{counted, raised}
 use Rattle.ppp_outside.specs.Line.{LineState, answer_with, failed, got_of, is_end, is_quiet}

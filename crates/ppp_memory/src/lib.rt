@@ -15,11 +15,17 @@ mod iface_in;
 mod iface_out;
 mod kept_answer;
 mod kit;
+#[cfg(test)]
+mod kit_tests;
 mod line;
+#[cfg(test)]
+mod line_tests;
 mod new_line;
 mod replay_dialer;
 mod replay_line;
 mod replay_sink;
+#[cfg(test)]
+mod tests;
 
 pub use clock::MemoryClock;
 pub use control::MemoryControl;

@@ -1,3 +1,4 @@
+pub mod AskedLemmas
 pub mod Digits
 pub mod Pieces
 pub mod PutLemmas

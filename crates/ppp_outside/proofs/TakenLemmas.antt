@@ -1,5 +1,5 @@
 -- How much of a text a sink takes whose first answer was set.
-use Rattle.std.proofs.Common.{◌≡◌, ℕ, ◌+◌, ◌<◌, ◌≤◌, List, [], ◌∷◌, length, Option, Some, None, IfSome, ◌⊎◌, inl, inr, Bool, true, false, ◌∙◌, sym, subst, refl, arith}
+use Rattle.std.proofs.Common.{◌≡◌, ℕ, ◌+◌, ◌<◌, ◌≤◌, List, [], ◌∷◌, length, Option, Some, None, IfSome, ◌⊎◌, inl, inr, true, false, ◌∙◌, sym, subst, refl, arith}
 use Rattle.ppp_outside.specs.Sink.{AnswersAs, takes_text}
 use Rattle.ppp_outside.specs.declared.sink.SinkNext.{SinkNext}
 use Rattle.ppp_outside.specs.declared.sink.SinkNext.TheVariants.{Takes, Fails}

@@ -1,5 +1,5 @@
 -- What a clause sees of files, and what reading one does.
-use Rattle.std.specs.Prelude.{◌≡◌, ℕ, Bool, true, false, nat_eq, List, [], ◌∷◌, Option, Some, None, IfSome, option_map, find}
+use Rattle.std.specs.Prelude.{◌≡◌, ℕ, Bool, true, false, nat_eq, List, Option, Some, None, IfSome, option_map, find}
 use Rattle.std.specs.Cmp.Lexicographic.{pointwise}
 use Rattle.ppp_outside.specs.Counts.{CountsFault}
 use Rattle.ppp_outside.specs.declared.files.WholeFile.{WholeFile}

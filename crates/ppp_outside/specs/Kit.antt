@@ -1,5 +1,5 @@
 -- What a clause sees of a kit, and what its calls do to it.
-use Rattle.std.specs.Prelude.{◌≡◌, ℕ, List, Option}
+use Rattle.std.specs.Prelude.{◌≡◌, ◌≢◌, ◌⊎◌, ℕ, List, [], Option, All}
 use Rattle.ppp_outside.specs.declared.asked.Asked.{Asked}
 use Rattle.ppp_outside.specs.declared.asked.Asked.TheVariants.{NotYet, Always, Mixed}
 use Rattle.ppp_outside.specs.declared.hook_paths.HookPaths.{HookPaths}
@@ -12,10 +12,16 @@ pub record KitState : Type 0 where
   pub path_asked : Asked (Option (List ℕ))
   pub packets_asked : Asked (Option (List ℕ))
 
+-- Whether it says what these calls were given: there was none, or each was given this one, or no one value was given to all.
+abbrev pub TellsOf : {A : Type 0} → Asked A → List A → Type 0
+TellsOf NotYet values = values ≡ []
+TellsOf (Always first) values = (values ≢ []) × All (λ value. value ≡ first) values
+TellsOf {A} Mixed values = (first : A) → ¬ All (λ value. value ≡ first) values
+
 -- What all calls were given, after one more: the first value, as long as no call was given another one.
 abbrev pub AskedAfter : {A : Type 0} → Asked A → A → Asked A → Type 0
 AskedAfter NotYet value now = now ≡ Always value
-AskedAfter (Always first) value now = (first ≡ value → now ≡ Always first) × (¬ (first ≡ value) → now ≡ Mixed)
+AskedAfter (Always first) value now = ((first ≡ value) × (now ≡ Always first)) ⊎ ((first ≢ value) × (now ≡ Mixed))
 AskedAfter Mixed value now = now ≡ Mixed
 
 -- A call of `spawner` with these paths.

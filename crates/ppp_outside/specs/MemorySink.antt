@@ -1,5 +1,5 @@
 -- What contracts see of a sink in memory.
-use Rattle.std.specs.Prelude.{ℕ, ◌-◌, Bool, true, false, List, ◌++◌, length, take, min, nat_eq, nat_lt, ◌&&◌, ◌||◌, if◌then◌else◌, Some}
+use Rattle.std.specs.Prelude.{ℕ, ◌-◌, Bool, true, false, List, ◌++◌, length, min, nat_eq, nat_lt, ◌&&◌, ◌||◌, if◌then◌else◌, Some}
 use Rattle.ppp_outside.specs.Calls.{is_listed}
 use Rattle.ppp_outside.specs.Counts.{counted, raised}
 use Rattle.ppp_outside.specs.Sink.{SinkState, accepted, failed}

@@ -1,5 +1,5 @@
 -- What contracts see of a source in memory.
-use Rattle.std.specs.Prelude.{ℕ, Bool, List, length, drop, min, nat_eq, nat_lt, ◌&&◌, if◌then◌else◌, Some}
+use Rattle.std.specs.Prelude.{ℕ, List, length, drop, min, nat_eq, nat_lt, ◌&&◌, if◌then◌else◌, Some}
 use Rattle.ppp_outside.specs.Calls.{is_listed}
 use Rattle.ppp_outside.specs.Counts.{counted, raised}
 use Rattle.ppp_outside.specs.Source.{SourceState, failed}

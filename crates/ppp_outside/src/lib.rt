@@ -12,6 +12,7 @@ mod hook_paths;
 mod hook_words;
 mod iface;
 mod kit;
+pub mod laws;
 mod line_in;
 mod line_words;
 mod memory_sink;
@@ -28,6 +29,8 @@ mod spawner_tests;
 mod streams;
 #[cfg(test)]
 mod tests;
+#[cfg(test)]
+mod value_tests;
 mod writing;
 
 pub use asked::Asked;

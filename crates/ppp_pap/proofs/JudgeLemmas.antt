@@ -13,7 +13,7 @@ use Rattle.ppp_proving.specs.Which.{NoneOf}
 use Rattle.ppp_proving.proofs.Judging.{Judges, waiting_none, none_waiting, stays, first_says, said_first}
 use Rattle.ppp_pap.specs.Packets.{request_body, request_of}
 use Rattle.ppp_pap.specs.Passes.{Passes, lets_in, passing, passing_line}
-use Rattle.ppp_pap.specs.Judge.{AreLawful, judged, judged_by, outcome_in, said_by, verdict_packet}
+use Rattle.ppp_pap.specs.Judge.{AreLawful, judged, judged_by, outcome_in, request_in, said_by, verdict_packet}
 use Rattle.ppp_pap.specs.Requests.{Asks, FirstAsks, IsRequest}
 use Rattle.ppp_pap.proofs.PacketLemmas.{body_is_read, read_is_body}
 
@@ -58,11 +58,24 @@ passes_none a name password never = go (passing_line a name password) refl
 request_says : (call : AuthCall) (a : Against) (name password : List ℕ) → Asks call a name password → said_by call ≡ judged_by name (passing_line a name password)
 request_says call a name password asks = ap said_by asks.heard ∙ ap (judged a) (body_is_read name password)
 
-record Requested (call : AuthCall) : Type 0 where
-  against : Against
-  name : List ℕ
-  password : List ℕ
-  asks : Asks call against name password
+pub record Requested (call : AuthCall) : Type 0 where
+  pub against : Against
+  pub name : List ℕ
+  pub password : List ℕ
+  pub asks : Asks call against name password
+
+-- a packet that is read as a request is one
+pub read_requested : (p : Packet) (a : Against) (request : List ℕ × List ℕ) → request_in p ≡ Some request → Requested (hears p a)
+read_requested p a request e = go (p.code == 1) refl e
+  where
+    go : (test : Bool) → (p.code == 1) ≡ test → (if test then request_of p.body else None) ≡ Some request → Requested (hears p a)
+    go false t e = absurd cc
+    go true t f =
+        let codes_are : p.code ≡ 1 = (Decides-eqb p.code 1).0 t in
+        let body_is : p.body ≡ request_body request.0 request.1 = read_is_body p.body request.0 request.1 f in
+        let packet_is : p ≡ record { code = 1; id = p.id; body = request_body request.0 request.1 } =
+        ap (λ code. record { code = code; id = p.id; body = p.body }) codes_are ∙ ap (λ body. record { code = 1; id = p.id; body = body }) body_is in
+        record { against = a; name = request.0; password = request.1; asks = record { id = p.id; heard = ap (λ q. hears q a) packet_is } }
 
 requested : (call : AuthCall) → ((said_by call ≡ Waiting) × (Requested call → ⊥)) ⊎ Requested call
 requested begins = inl (refl, λ r. absurd (cc (r.asks.heard)))
@@ -85,12 +98,7 @@ requested (hears p a) = go (p.code == 1) refl (request_of p.body) refl
         ((said_by (hears p a) ≡ Waiting) × (Requested (hears p a) → ⊥)) ⊎ Requested (hears p a)
     go false t found f = inl (ap (λ b. judged a (if b then request_of p.body else None)) t, no_code t)
     go true t None f = inl (ap (λ b. judged a (if b then request_of p.body else None)) t ∙ ap (judged a) f, no_body f)
-    go true t (Some request) f =
-        let codes_are : p.code ≡ 1 = (Decides-eqb p.code 1).0 t in
-        let body_is : p.body ≡ request_body request.0 request.1 = read_is_body p.body request.0 request.1 f in
-        let packet_is : p ≡ record { code = 1; id = p.id; body = request_body request.0 request.1 } =
-        ap (λ code. record { code = code; id = p.id; body = p.body }) codes_are ∙ ap (λ body. record { code = 1; id = p.id; body = body }) body_is in
-        inr (record { against = a; name = request.0; password = request.1; asks = record { id = p.id; heard = ap (λ q. hears q a) packet_is } })
+    go true t (Some request) f = inr (read_requested p a request (ap (λ b. if b then request_of p.body else None) t ∙ f))
 
 judged_known : (name : List ℕ) (found : Option ℕ) → judged_by name found ≡ Waiting → ⊥
 judged_known name None e = absurd cc

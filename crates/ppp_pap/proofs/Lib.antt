@@ -1,3 +1,4 @@
+pub mod AnswerLemmas
 pub mod JudgeLemmas
 pub mod PacketLemmas
 pub mod PeerLemmas

@@ -1,19 +1,19 @@
 -- The outcome of one who proves himself by PAP, by which calls are answers.
-use Rattle.std.proofs.Common.{◌≡◌, ℕ, ◌+◌, ◌≤◌, Bool, true, false, ◌⊎◌, inl, inr, List, [], ◌∷◌, length, Option, None, Some, refl, sym, ap, ◌∙◌, subst, arith}
-use Rattle.std.specs.Prelude.{◌==◌, ◌&&◌, is_some, if◌then◌else◌}
+use Rattle.std.proofs.Common.{◌≡◌, ℕ, ◌+◌, ◌≤◌, Bool, true, false, ◌⊎◌, inl, inr, List, [], ◌∷◌, length, Option, refl, sym, ap, ◌∙◌, subst, arith}
+use Rattle.std.specs.Prelude.{◌==◌, ◌&&◌, if◌then◌else◌}
 use Rattle.std.proofs.lemmas.Bool.{and_parts, and_from}
 use Rattle.std.proofs.lemmas.Bool.Decides.{Decides-eqb}
 use Rattle.ppp_packet.specs.declared.packet.Packet.{Packet}
 use Rattle.ppp_packet.specs.declared.auth_out.AuthOutcome.{AuthOutcome}
 use Rattle.ppp_packet.specs.declared.auth_out.AuthOutcome.TheVariants.{Waiting, Passed, Refused, Unanswered}
-use Rattle.ppp_proving.specs.Calls.{Against, AuthCall, begins, hears, ticks, Answered, is_own, is_waiting, sent_at, turned, where_sent}
-use Rattle.ppp_proving.specs.Own.{IsAlways, SendsOwn}
+use Rattle.ppp_proving.specs.Calls.{Against, AuthCall, begins, hears, ticks, Answered, sent_at, turned, where_sent}
+use Rattle.ppp_proving.specs.Own.{SendsOwn}
 use Rattle.ppp_proving.specs.Resending.{again_at, last_of, unanswered}
 use Rattle.ppp_proving.specs.Which.{NoneOf, SomeOf, Tires}
-use Rattle.ppp_proving.proofs.Sending.{Few, none_few, begin_few, tick_few, first_is, again_is, time_says}
+use Rattle.ppp_proving.proofs.Sending.{OwnSent, sends_own, time_says}
 use Rattle.ppp_proving.proofs.WhichLemmas.{none_some, some_later, some_now}
 use Rattle.ppp_pap.specs.Packets.{is_answer, is_message, request_packet}
-use Rattle.ppp_pap.specs.Peer.{AreLawful, answer_says, outcome_in, said_by, sends}
+use Rattle.ppp_pap.specs.Peer.{AreLawful, answer_says, outcome_in, said_by}
 use Rattle.ppp_pap.specs.Answers.{Accepts, GaveUp, Hears, Rejects}
 use Rattle.ppp_pap.proofs.PacketLemmas.{message_is_read, read_is_message}
 
@@ -194,36 +194,10 @@ pub means : (name : List ℕ) (past : List Answered) → Means name past (outcom
 means name [] = (tt, tt, tt)
 means name (h ∷ past) = after name h past (outcome_in name past) (said_by name (sent_at past) h.now h.call) (means name past) (says name h.now h.call h.packet h.outcome past)
 
+own_is : (name password : List ℕ) (past : List Answered) → AreLawful name password past → OwnSent (request_packet name password) (outcome_in name) past
+own_is name password [] l = tt
+own_is name password (h ∷ past) l = (λ o. l.0.packet, own_is name password past l.1)
+
 -- what is sent of our own accord
-few_more : (name password : List ℕ) (now : ℕ) (call : AuthCall) (packet : Option Packet) (outcome : AuthOutcome) (past : List Answered)
-    → packet ≡ sends name password past now call → Few (sent_at past) → Few (sent_at (record { now = now; call = call; packet = packet; outcome = outcome } ∷ past))
-few_more name password now begins packet outcome past e f =
-    subst (λ (p : Option Packet). Few (if is_some p then now ∷ sent_at past else sent_at past)) (sym e) (begin_few now (sent_at past) (request_packet name password) f)
-few_more name password now (hears p a) packet outcome past e f = f
-few_more name password now ticks packet outcome past e f =
-    subst (λ (p : Option Packet). Few (if is_some p then now ∷ sent_at past else sent_at past)) (sym e)
-    (tick_few now (sent_at past) (request_packet name password) (is_waiting (outcome_in name past)) f)
-
-few : (name password : List ℕ) (past : List Answered) → AreLawful name password past → Few (sent_at past)
-few name password [] l = none_few
-few name password (h ∷ past) l = few_more name password h.now h.call h.packet h.outcome past l.0.packet (few name password past l.1)
-
-either_is : (own : Packet) (packet sent : Option Packet) → packet ≡ sent → (sent ≡ None) ⊎ (sent ≡ Some own) → (packet ≡ None) ⊎ (packet ≡ Some own)
-either_is own packet sent e (inl n) = inl (e ∙ n)
-either_is own packet sent e (inr s) = inr (e ∙ s)
-
-own_is : (name password : List ℕ) (now : ℕ) (call : AuthCall) (packet : Option Packet) (past : List Answered)
-    → packet ≡ sends name password past now call → is_own call ≡ true → (packet ≡ None) ⊎ (packet ≡ Some (request_packet name password))
-own_is name password now begins packet past e o = either_is _ packet _ e (first_is (sent_at past) (request_packet name password))
-own_is name password now (hears p a) packet past e o = absurd cc
-own_is name password now ticks packet past e o =
-    either_is _ packet _ e (again_is (is_waiting (outcome_in name past)) (again_at now (sent_at past)) (request_packet name password))
-
-always : (name password : List ℕ) (past : List Answered) → AreLawful name password past → IsAlways (request_packet name password) past
-always name password [] l = tt
-always name password (h ∷ past) l = (λ o. own_is name password h.now h.call h.packet past l.0.packet o, always name password past l.1)
-
-pub sends_own : (name password : List ℕ) (past : List Answered) → AreLawful name password past → SendsOwn (request_packet name password) past
-sends_own name password past l =
-    let f = few name password past l in
-    record { same = always name password past l; few = f.few; apart = f.apart }
+pub few_requests : (name password : List ℕ) (past : List Answered) → AreLawful name password past → SendsOwn (request_packet name password) (outcome_in name) past
+few_requests name password past l = sends_own (request_packet name password) (outcome_in name) past (own_is name password past l)

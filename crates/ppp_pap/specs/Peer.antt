@@ -1,10 +1,10 @@
 -- One who proves himself by PAP, by the list of his calls, the newest first (RFC 1334, section 2.2).
-use Rattle.std.specs.Prelude.{ℕ, ◌≡◌, Option, None, List, [], ◌∷◌, if◌then◌else◌, ⊤}
+use Rattle.std.specs.Prelude.{ℕ, ◌≡◌, Option, List, [], ◌∷◌, if◌then◌else◌, ⊤}
 use Rattle.ppp_packet.specs.declared.packet.Packet.{Packet}
 use Rattle.ppp_packet.specs.declared.auth_out.AuthOutcome.{AuthOutcome}
 use Rattle.ppp_packet.specs.declared.auth_out.AuthOutcome.TheVariants.{Waiting, Passed, Refused}
-use Rattle.ppp_proving.specs.Calls.{AuthCall, begins, hears, ticks, Answered, sent_at, turned, is_waiting, where_sent}
-use Rattle.ppp_proving.specs.Resending.{Sendings, again, again_at, first_time, sendings_of, unanswered}
+use Rattle.ppp_proving.specs.Calls.{AuthCall, begins, hears, ticks, Answered, sent_at, turned, where_sent}
+use Rattle.ppp_proving.specs.Resending.{Sendings, again_at, own_sent, sendings_of, unanswered}
 use Rattle.ppp_pap.specs.Packets.{request_packet, is_answer}
 
 -- an Ack and a Nak of our request say that we passed, and that we were refused
@@ -23,10 +23,7 @@ outcome_in name (h ∷ past) = turned (outcome_in name past) (said_by name (sent
 
 -- The request goes out as the authentication begins, and again while there is no outcome.
 abbrev pub sends : List ℕ → List ℕ → List Answered → ℕ → AuthCall → Option Packet
-sends name password past now begins = first_time (sent_at past) (request_packet name password)
-sends name password past now (hears p a) = None
-sends name password past now ticks =
-    if is_waiting (outcome_in name past) then again (again_at now (sent_at past)) (request_packet name password) else None
+sends name password past now call = own_sent (request_packet name password) (outcome_in name past) past now call
 
 -- A call's answer, after these calls.
 pub record IsLawful (name password : List ℕ) (h : Answered) (past : List Answered) : Type 0 where

@@ -5,7 +5,7 @@ use Rattle.ppp_packet.specs.declared.auth_out.AuthOutcome.{AuthOutcome}
 use Rattle.ppp_packet.specs.declared.auth_out.AuthOutcome.TheVariants.{Waiting, Unanswered}
 use Rattle.ppp_proving.specs.declared.resending.Again.{Again}
 use Rattle.ppp_proving.specs.declared.resending.Again.TheVariants.{Nothing, Send, GiveUp}
-use Rattle.ppp_proving.specs.Calls.{is_due_again}
+use Rattle.ppp_proving.specs.Calls.{AuthCall, begins, hears, ticks, Answered, is_due_again, is_waiting, sent_at}
 
 -- what is due at a moment: nothing before 3 seconds have passed since the last sending; then the packet again, up to ten times in all
 abbrev pub again_at : ℕ → List ℕ → Again
@@ -40,3 +40,9 @@ abbrev pub again : Again → Packet → Option Packet
 again Nothing own = None
 again Send own = Some own
 again GiveUp own = None
+
+-- What is sent where no packet was heard: this one as the authentication begins, and again while there is no outcome.
+abbrev pub own_sent : Packet → AuthOutcome → List Answered → ℕ → AuthCall → Option Packet
+own_sent own outcome past now begins = first_time (sent_at past) own
+own_sent own outcome past now (hears p a) = None
+own_sent own outcome past now ticks = if is_waiting outcome then again (again_at now (sent_at past)) own else None

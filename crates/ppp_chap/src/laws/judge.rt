@@ -1,14 +1,15 @@
 //! A judge of CHAP, over every list of calls.
 
-ghost use Rattle.std.specs.Prelude.{◌≡◌, ◌↔◌, ◌≤◌, ◌++◌, ℕ, List, length, Some, false};
+ghost use Rattle.std.specs.Prelude.{◌≡◌, ◌↔◌, ◌≤◌, ◌++◌, ◌∷◌, ℕ, List, [], length, Some, None, false};
+ghost use Rattle.ppp_packet.specs.declared.packet.Packet.{Packet};
 ghost use Rattle.ppp_packet.specs.declared.auth_out.AuthOutcome.TheVariants.{Waiting, Passed, Refused, Unanswered};
-ghost use Rattle.ppp_proving.specs.Calls.{Against, Answered, is_waiting};
+ghost use Rattle.ppp_proving.specs.Calls.{Against, Answered, hears, is_waiting};
 ghost use Rattle.ppp_proving.specs.Own.{SendsOwn};
 ghost use Rattle.ppp_proving.specs.Which.{NoneOf};
 ghost use Rattle.ppp_chap.specs.Judge.{AreLawful, outcome_in};
 ghost use Rattle.ppp_chap.specs.Packets.{challenge_packet};
 ghost use Rattle.ppp_chap.specs.Passes.{Passes, passing_line};
-ghost use Rattle.ppp_chap.specs.Responses.{FirstResponds, FirstTires, IsKnown};
+ghost use Rattle.ppp_chap.specs.Responses.{FirstResponds, FirstTires, GoesUnanswered, IsKnown, Responds};
 
 /// The number of the line by which one passes is told exactly where one passes, and a value that passes has 16 octets.
 pub fn lines_pass()
@@ -31,9 +32,22 @@ pub fn first_response_decides()
         → outcome_in challenge (later ++ past) ≡ outcome_in challenge past }
 {}
 
-/// The challenge is always the same, and is sent ten times at most, each time 3 seconds or more after the one before.
+/// The challenge is always the same, and is sent whenever it is due, ten times at most, each time 3 seconds or more after the one before.
 pub fn challenges_are_few()
-    ensures { (name challenge : List ℕ) (past : List Answered) → AreLawful name challenge past → SendsOwn (challenge_packet challenge name) past }
+    ensures { (name challenge : List ℕ) (past : List Answered) → AreLawful name challenge past → SendsOwn (challenge_packet challenge name) (outcome_in challenge) past }
+{}
+
+/// Each response to our challenge gets the answer that the first one deserved: a Success where its sender passes by a line, a Failure where by
+/// none, and nothing where the challenge was given up before or wasn't sent. No other packet is answered.
+pub fn responses_are_answered()
+    ensures success { (our_name challenge : List ℕ) (h : Answered) (past : List Answered) (a b : Against) (name value asked word : List ℕ) (number : ℕ)
+        → AreLawful our_name challenge (h ∷ past) → Responds h.call a name value → FirstResponds (h ∷ past) b asked word
+        → Passes b challenge asked word number → h.packet ≡ Some (record { code = 3; id = 1; body = [] }) }
+    ensures failure { (our_name challenge : List ℕ) (h : Answered) (past : List Answered) (a b : Against) (name value asked word : List ℕ)
+        → AreLawful our_name challenge (h ∷ past) → Responds h.call a name value → FirstResponds (h ∷ past) b asked word
+        → ((number : ℕ) → Passes b challenge asked word number → ⊥) → h.packet ≡ Some (record { code = 4; id = 1; body = [] }) }
+    ensures silent { (our_name challenge : List ℕ) (h : Answered) (past : List Answered) (p : Packet) (a : Against)
+        → AreLawful our_name challenge (h ∷ past) → h.call ≡ hears p a → GoesUnanswered h past → h.packet ≡ None }
 {}
 
 /// Whoever passes by a line has passed in some run, and whoever passes by none was refused in some; some run is given up. Some one passes.

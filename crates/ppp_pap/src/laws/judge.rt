@@ -1,12 +1,12 @@
 //! A judge of PAP, over every list of calls.
 
-ghost use Rattle.std.specs.Prelude.{◌≡◌, ◌↔◌, ◌++◌, ℕ, List, Some, false};
+ghost use Rattle.std.specs.Prelude.{◌≡◌, ◌↔◌, ◌++◌, ◌∷◌, ℕ, List, [], Some, None, false};
 ghost use Rattle.ppp_packet.specs.declared.auth_out.AuthOutcome.TheVariants.{Waiting, Passed, Refused, Unanswered};
 ghost use Rattle.ppp_proving.specs.Calls.{Against, Answered, is_waiting};
 ghost use Rattle.ppp_proving.specs.Which.{NoneOf};
 ghost use Rattle.ppp_pap.specs.Judge.{AreLawful, outcome_in};
 ghost use Rattle.ppp_pap.specs.Passes.{Passes, passing_line};
-ghost use Rattle.ppp_pap.specs.Requests.{FirstAsks, IsRequest};
+ghost use Rattle.ppp_pap.specs.Requests.{Asks, FirstAsks, IsRequest};
 
 /// The number of the line by which one passes is told exactly where one passes.
 pub fn lines_pass()
@@ -23,6 +23,18 @@ pub fn first_request_decides()
     ensures never { (past : List Answered) (times : ℕ) → outcome_in past ≡ Unanswered times → ⊥ }
     // Whatever comes later.
     ensures stays { (later past : List Answered) → is_waiting (outcome_in past) ≡ false → outcome_in (later ++ past) ≡ outcome_in past }
+{}
+
+/// Each request gets the answer that the first one deserved, with its own identifier: an Ack where its sender passes by a line, a Nak where by
+/// none. No other call is answered.
+pub fn requests_are_answered()
+    ensures acknowledged { (h : Answered) (past : List Answered) (a b : Against) (name password asked word : List ℕ) (number : ℕ) → AreLawful (h ∷ past)
+        → (asks : Asks h.call a name password) → FirstAsks (h ∷ past) b asked word → Passes b asked word number
+        → h.packet ≡ Some (record { code = 2; id = asks.id; body = 0 ∷ [] }) }
+    ensures refused { (h : Answered) (past : List Answered) (a b : Against) (name password asked word : List ℕ) → AreLawful (h ∷ past)
+        → (asks : Asks h.call a name password) → FirstAsks (h ∷ past) b asked word → ((number : ℕ) → Passes b asked word number → ⊥)
+        → h.packet ≡ Some (record { code = 3; id = asks.id; body = 0 ∷ [] }) }
+    ensures silent { (h : Answered) (past : List Answered) → AreLawful (h ∷ past) → (IsRequest h past → ⊥) → h.packet ≡ None }
 {}
 
 /// Whoever passes by a line has passed in some run, and whoever passes by none was refused in some; some one passes.

@@ -21,9 +21,9 @@ pub fn answers_decide()
         ↔ (NoneOf Accepts past × NoneOf Rejects past × NoneOf GaveUp past) }
 {}
 
-/// The request is always the same, and is sent ten times at most, each time 3 seconds or more after the one before.
+/// The request is always the same, and is sent whenever it is due, ten times at most, each time 3 seconds or more after the one before.
 pub fn requests_are_few()
-    ensures { (name password : List ℕ) (past : List Answered) → AreLawful name password past → SendsOwn (request_packet name password) past }
+    ensures { (name password : List ℕ) (past : List Answered) → AreLawful name password past → SendsOwn (request_packet name password) (outcome_in name) past }
 {}
 
 /// Some run passes, one is refused, one is refused after it had passed, and one is given up.

@@ -1,5 +1,5 @@
-use Rattle.ppp_chap.proofs.JudgeLemmas.{sends_own}
+use Rattle.ppp_chap.proofs.JudgeLemmas.{few_challenges}
 use Rattle.ppp_chap.proofs.laws.judge.challenges_are_few.Goals as goal
 
 pub returns : goal.returns
-returns c = sends_own
+returns c = few_challenges

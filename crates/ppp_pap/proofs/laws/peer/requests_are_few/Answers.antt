@@ -1,5 +1,5 @@
-use Rattle.ppp_pap.proofs.PeerLemmas.{sends_own}
+use Rattle.ppp_pap.proofs.PeerLemmas.{few_requests}
 use Rattle.ppp_pap.proofs.laws.peer.requests_are_few.Goals as goal
 
 pub returns : goal.returns
-returns c = sends_own
+returns c = few_requests
