@@ -1,6 +1,6 @@
 -- What the acts of an automaton (RFC 1661, 4.4) do to the scripts of its unit (pppd(8), "Scripts"): This-Layer-Up opens the protocol under the
 -- next number, This-Layer-Down closes it, and no other act does anything. The newest mark comes first.
-use Rattle.std.specs.Prelude.{ℕ, ◌+◌, ◌≡◌, List, [], ◌∷◌, ◌++◌}
+use Rattle.std.specs.Prelude.{◌+◌, List, [], ◌∷◌, ◌++◌}
 use Rattle.ppp_base.specs.declared.hook_target.HookTarget.TheVariants.{Unit as OfUnit}
 use Rattle.ppp_fsm.specs.declared.acts.Act.{Act}
 use Rattle.ppp_fsm.specs.declared.acts.Act.TheVariants.{Tlu, Tld}

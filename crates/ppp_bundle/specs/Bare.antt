@@ -1,5 +1,5 @@
 -- What contracts see of one automaton with its ip scripts.
-use Rattle.std.specs.Prelude.{ℕ, ◌==◌, ◌≡◌, Bool, List, [], ◌∷◌, is_some}
+use Rattle.std.specs.Prelude.{◌==◌, ◌≡◌, Bool, List, [], ◌∷◌, is_some}
 use Rattle.ppp_base.specs.declared.hook_target.HookTarget.TheVariants.{Unit as OfUnit}
 use Rattle.ppp_fsm.specs.Fsm.{Automaton}
 use Rattle.ppp_hooks.specs.HookFacts.{HasArgs}

@@ -1,17 +1,17 @@
 -- The law of site scripts of one more mark, and that it leaves no choice of what is started.
-use Rattle.std.proofs.Common.{ℕ, ◌+◌, ◌<◌, ◌≤◌, ◌≡◌, ◌⊎◌, inl, inr, Bool, true, false, not, Option, None, Some, is_some, List, [], ◌∷◌, ◌++◌, refl, ap, ◌∙◌, sym, subst, arith, cond, count_by, append_assoc}
-use Rattle.std.specs.Prelude.{◌↔◌, ◌==◌, ◌||◌, if◌then◌else◌}
+use Rattle.std.proofs.Common.{ℕ, ◌+◌, ◌≤◌, ◌≡◌, ◌⊎◌, inl, inr, Bool, true, false, not, Option, None, Some, is_some, List, [], ◌∷◌, ◌++◌, refl, ap, ◌∙◌, sym, subst, arith, cond, count_by, append_assoc}
+use Rattle.std.specs.Prelude.{◌↔◌, ◌==◌, ◌||◌}
 use mathlib.Core.List.{reverse}
 use Rattle.std.proofs.lemmas.Bool.Decides.{nat_tests}
-use Rattle.std.proofs.lemmas.List.{reverse-append, reverse-reverse, append-nil}
+use Rattle.std.proofs.lemmas.List.{reverse-reverse, append-nil}
 use Rattle.ppp_hooks.specs.HookMark.{HookMark, Opened, Closed, Started, Ended, is_opening, is_closing, is_start, is_end, directions}
 use Rattle.ppp_hooks.specs.HookLaw.{Alternate, IsOpenAfter, LastStartIs, IsInPlace, HookLaw}
-use Rattle.ppp_hooks.specs.HookPast.{starts_in, ends_in, open_in, last_in, greatest_in, IsLawful, IsSettled, IsDown, Matches, MayFollow}
+use Rattle.ppp_hooks.specs.HookPast.{starts_in, ends_in, open_in, last_in, IsLawful, IsSettled, IsDown, Matches}
 use Rattle.ppp_hooks.specs.HookPlace.{openings_in, is_among, MayStand, AreStarts}
-use Rattle.ppp_hooks.specs.HookRule.{due_after, due_for, up_for, is_open, start_marks, with_due}
+use Rattle.ppp_hooks.specs.HookRule.{due_after, due_for, is_open, start_marks, with_due}
 use Rattle.ppp_hooks.specs.Settled.{NoneRuns, IsPresentOpening, Settled}
 use Rattle.ppp_hooks.proofs.Calls.{due_keeps}
-use Rattle.ppp_hooks.proofs.Places.{count_by-append, count_by-cons, reverse-cons, count_by-reverse, starts_are, ends_are, turn_after, turn_after-more, directions-append, directions-reverse, next_of, turned, last-start, none-runs, present, law_of_past, settled_of_past}
+use Rattle.ppp_hooks.proofs.Places.{count_by-cons, reverse-cons, count_by-reverse, starts_are, ends_are, turn_after, turn_after-more, directions-append, directions-reverse, next_of, turned, last-start, law_of_past, settled_of_past}
 
 -- ---- one more mark at the end
 

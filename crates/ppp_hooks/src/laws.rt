@@ -51,5 +51,5 @@ pub fn no_other_choice()
         → starts ≡ due_after (mark ∷ past) }
     ensures keeps { (past : List HookMark) (mark : HookMark) → IsLawful past → MayFollow past mark
         → HookLaw 0 (reverse (due_after (mark ∷ past) ++ mark ∷ past))
-            × Settled (reverse (due_after (mark ∷ past) ++ mark ∷ past)) (is_some (open_in (mark ∷ past))) }
+        × Settled (reverse (due_after (mark ∷ past) ++ mark ∷ past)) (is_some (open_in (mark ∷ past))) }
 {}

@@ -1,6 +1,6 @@
 -- A machine goes on standing for what its log says.
-use Rattle.std.proofs.Common.{◌≡◌, ℕ, ◌+◌, ◌<◌, ◌≤◌, ◌⊎◌, inl, inr, Bool, true, false, Option, None, Some, List, [], ◌∷◌, ◌++◌, length, refl, ap, sym, ◌∙◌, subst, arith}
-use Rattle.std.specs.Prelude.{◌==◌, ◌↔◌, IsNone, is_some, reverse, ◌||◌, if◌then◌else◌}
+use Rattle.std.proofs.Common.{◌≡◌, ℕ, ◌+◌, ◌<◌, ◌≤◌, inl, inr, Bool, true, false, Option, None, Some, List, [], ◌∷◌, ◌++◌, length, refl, ap, sym, ◌∙◌, subst, arith}
+use Rattle.std.specs.Prelude.{◌==◌, ◌↔◌, IsNone, ◌||◌, if◌then◌else◌}
 use Rattle.std.proofs.lemmas.Bool.Decides.{nat_tests}
 use Rattle.ppp_base.specs.declared.hook_target.HookTarget.{HookTarget}
 use Rattle.ppp_base.specs.declared.hook_target.HookTarget.TheVariants.{Link, Unit as OfUnit}
@@ -19,10 +19,9 @@ use Rattle.ppp_hooks.proofs.Places.{law_of_past, settled_of_past}
 use Rattle.ppp_mark.specs.declared.kind.TheConstants.{START, ENDED}
 use Rattle.ppp_mark.specs.declared.mark.Mark.{Mark}
 use Rattle.ppp_mark.specs.Log.{LogState}
-use Rattle.ppp_mark.specs.Marks.{ended_mark, started_mark}
+use Rattle.ppp_mark.specs.Marks.{ended_mark}
 use Rattle.ppp_mark.specs.ScriptLog.{Grows, IsKept, IsRunningJob, KeepsLaw, closed_mark, opened_mark, with_due_mark}
 use Rattle.ppp_mark.specs.Scripts.{AreUpOrDown, KeepsRunning, is_open_kind, is_closed_kind, due_marks, marks_at, said_in, said_with, says_scripts}
-use Rattle.ppp_mark.specs.declared.script_log.TheConstants.{MOST_LIMIT}
 
 -- what is due is starts
 start-marks-starts : (s : Option (Bool × ℕ)) → AreStarts (start_marks s)

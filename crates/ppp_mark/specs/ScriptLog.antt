@@ -1,5 +1,5 @@
 -- A machine of site scripts together with a log. What the machine does the log has, and the log has other marks too.
-use Rattle.std.specs.Prelude.{ℕ, ◌+◌, ◌≤◌, ◌≡◌, Bool, Option, None, Some, List, [], ◌∷◌, ◌++◌, is_some, length}
+use Rattle.std.specs.Prelude.{ℕ, ◌+◌, ◌≤◌, ◌≡◌, Option, None, Some, List, ◌∷◌, ◌++◌, is_some, length}
 use Rattle.ppp_base.specs.declared.hook_target.HookTarget.{HookTarget}
 use Rattle.ppp_base.specs.declared.hook_target.HookTarget.TheVariants.{Link, Unit as OfUnit}
 use Rattle.ppp_outside.specs.declared.spawner.ScriptEnd.{ScriptEnd}

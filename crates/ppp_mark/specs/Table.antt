@@ -1,5 +1,5 @@
 -- The table of marks: the name of each kind, in whose logs it stands, and the ranges of its numbers. The time is any u64.
-use Rattle.std.specs.Prelude.{ℕ, ◌==◌, ◌≤◌, ◌≡◌, Bool, true, false, Option, None, Some, is_some, List, [], ◌∷◌, ⊤, codes, if◌then◌else◌}
+use Rattle.std.specs.Prelude.{ℕ, ◌==◌, ◌≤◌, Bool, Option, None, Some, is_some, List, [], ◌∷◌, codes, if◌then◌else◌}
 use Rattle.ppp_mark.specs.declared.mark.Mark.{Mark}
 use Rattle.ppp_mark.specs.declared.kind.TheConstants.{ATTEMPT, LINE, LCP_OPEN, LCP_CLOSED, AUTH_OPEN, AUTH_CLOSED, START, ENDED, ASKED, LEFT, MEMBER, LIVE, REFUSED, SIGNAL, CAUSE, OVER, HOLD, WAIT, FINISHED, MADE, IN, OUT, IP_OPEN, LOCAL, REMOTE, IP_CLOSED, CLOSE, UNMADE}
 

@@ -8,6 +8,8 @@ pub mod kind;
 mod log;
 mod mark;
 mod script_log;
+#[cfg(test)]
+mod tests;
 
 pub use log::Log;
 pub use mark::Mark;

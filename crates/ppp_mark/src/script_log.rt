@@ -78,12 +78,7 @@ fn mark_start<S: Spawner>(log: &mut Log, machine: &HookMachine<S>, before: u32, 
 }
 
 // The protocol opens under the next number.
-fn open_scripts<S: Spawner>(
-    machine: &mut HookMachine<S>,
-    log: &mut Log,
-    args: HookArgs,
-    time: u64,
-)
+fn open_scripts<S: Spawner>(machine: &mut HookMachine<S>, log: &mut Log, args: HookArgs, time: u64)
     requires kept { IsKept machine.old log.old }
     requires room { 2 ≤ room_of log.old }
     requires closed { open_in (said_in log.old.past) ≡ None }
@@ -105,12 +100,7 @@ fn open_scripts<S: Spawner>(
 }
 
 // The opening of this number closes.
-fn close_scripts<S: Spawner>(
-    machine: &mut HookMachine<S>,
-    log: &mut Log,
-    opening: u32,
-    time: u64,
-)
+fn close_scripts<S: Spawner>(machine: &mut HookMachine<S>, log: &mut Log, opening: u32, time: u64)
     requires kept { IsKept machine.old log.old }
     requires room { 2 ≤ room_of log.old }
     requires opened { opening_number machine.old.facts.now_open ≡ Some opening }

@@ -1,9 +1,9 @@
 -- The headline for one unit: after each step of a run its scripts keep the law and agree with the automaton.
-use Rattle.std.proofs.Common.{◌≡◌, ℕ, ◌+◌, ◌<◌, ◌≤◌, Bool, true, false, Option, None, Some, List, [], ◌∷◌, ◌++◌, refl, ap, sym, ◌∙◌, subst, arith}
+use Rattle.std.proofs.Common.{◌≡◌, ℕ, ◌+◌, ◌<◌, ◌≤◌, Bool, true, false, Option, None, Some, List, [], ◌∷◌, ◌++◌, refl, ap, ◌∙◌, subst, arith}
 use Rattle.std.specs.Prelude.{◌==◌, is_some, nat_lt, nat_eq, take, reverse, if◌then◌else◌}
 use Rattle.std.specs.Option.{option_eq}
 use Rattle.std.proofs.lemmas.Bool.Decides.{nat_tests}
-use Rattle.ppp_fsm.specs.Fsm.{Automaton, acts_of, after}
+use Rattle.ppp_fsm.specs.Fsm.{acts_of, after}
 use Rattle.ppp_fsm.specs.Opening.{layer_change}
 use Rattle.ppp_fsm.proofs.OpeningLemmas.{opens_by_acts}
 use Rattle.ppp_outside.specs.declared.spawner.ScriptEnd.{ScriptEnd}

@@ -3,7 +3,7 @@ use Rattle.std.specs.Prelude.{ℕ, ◌+◌, ◌==◌, Bool, Option, None, Some, 
 use Rattle.std.specs.List.{flat_map}
 use Rattle.std.specs.Fmt.{decimal}
 use Rattle.ppp_fsm.specs.declared.acts.Act.{Act}
-use Rattle.ppp_fsm.specs.Fsm.{Automaton, acts_of}
+use Rattle.ppp_fsm.specs.Fsm.{acts_of}
 use Rattle.ppp_hooks.specs.HookMark.{HookMark}
 use Rattle.ppp_hooks.specs.HookPast.{starts_in, last_in, running_in}
 use Rattle.ppp_trace.specs.declared.step.BareStep.{BareStep}

@@ -1,4 +1,4 @@
-use Rattle.std.proofs.Common.{◌≡◌, ◌+◌, ap, sym, ◌∙◌, arith}
+use Rattle.std.proofs.Common.{◌≡◌, ap, ◌∙◌, arith}
 use Rattle.ppp_hooks.specs.HookFacts.{with_closed}
 use Rattle.ppp_hooks.specs.HookMark.{Closed}
 use Rattle.ppp_mark.specs.ScriptLog.{closed_mark, with_due_mark}

@@ -1,9 +1,9 @@
-use Rattle.std.proofs.Common.{◌≡◌, ◌+◌, ap, sym, ◌∙◌, arith, refl}
+use Rattle.std.proofs.Common.{◌≡◌, ◌+◌, ap, ◌∙◌, arith, refl}
 use Rattle.ppp_hooks.specs.HookFacts.{with_end}
 use Rattle.ppp_hooks.specs.HookMark.{Ended}
 use Rattle.ppp_hooks.specs.HookPast.{ends_in}
 use Rattle.ppp_mark.specs.Marks.{ended_mark}
-use Rattle.ppp_mark.specs.ScriptLog.{log_ended, with_due_mark}
+use Rattle.ppp_mark.specs.ScriptLog.{with_due_mark}
 use Rattle.ppp_mark.specs.Scripts.{said_in}
 use Rattle.ppp_mark.proofs.ScriptLemmas.{kept_on, said_after, said-ended, written, ended-no-start, job-number, running_is}
 use Rattle.ppp_mark.proofs.script_log.end_script.Goals as goal

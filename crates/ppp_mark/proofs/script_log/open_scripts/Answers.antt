@@ -1,4 +1,4 @@
-use Rattle.std.proofs.Common.{◌≡◌, ◌+◌, ap, sym, ◌∙◌, arith}
+use Rattle.std.proofs.Common.{◌≡◌, ◌+◌, ap, ◌∙◌, arith}
 use Rattle.ppp_hooks.specs.HookFacts.{with_open}
 use Rattle.ppp_hooks.specs.HookMark.{Opened}
 use Rattle.ppp_mark.specs.ScriptLog.{log_opened, next_opening, opened_mark}
