@@ -13,7 +13,8 @@ use Rattle.ppp_control.specs.declared.negotiation.Negotiation.{Negotiation}
 use Rattle.ppp_control.specs.declared.judging.Verdict.{Verdict}
 use Rattle.ppp_control.specs.declared.judging.Verdict.TheVariants.{Ack, Nak, Reject}
 use Rattle.ppp_control.specs.Given.{Given}
-use Rattle.ppp_control.specs.Step.{left_by, sent_by, sent_by_all, moved, step_sends, packet, terminated, terminate_packet, verdict_packet}
+use Rattle.ppp_control.specs.Step.{left_by, sent_by, sent_by_all, moved, step_sends, terminated}
+use Rattle.ppp_control.specs.OwnPackets.{packet, terminate_packet, verdict_packet}
 use Rattle.ppp_control.specs.Past.{Happened, onto, last_of, sent_in, last_acked, is_rca, has_ack, IsAcked, automaton_after}
 use Rattle.ppp_control.proofs.PastLemmas.{onto_more}
 
@@ -78,10 +79,10 @@ either old true x y z e f g = f
 either true false x y z e f g = f ∙ g refl
 either false false x y z e f g = absurd (let h : false ≡ true = e in cc)
 
-pub acked_back : (limits : Limits) (past : List Happened) (heard : Option Packet) (o : Given) (event : FsmEvent) (n : Negotiation) → n.fsm ≡ automaton_after limits past → IsAcked limits past
-    → IsAcked limits (record { now = o.now; heard = heard; event = Some event; acts = acts_of n.fsm event; packets = step_sends o event n } ∷ past)
+pub acked_back : (limits : Limits) (past : List Happened) (o : Given) (event : FsmEvent) (n : Negotiation) → n.fsm ≡ automaton_after limits past → IsAcked limits past
+    → IsAcked limits (record { now = o.now; event = Some event; acts = acts_of n.fsm event; packets = step_sends o event n } ∷ past)
 unfolding step_sends
-acked_back limits past heard o event n e h =
+acked_back limits past o event n e h =
     let a : Automaton = automaton_after limits past in
     record {
       last = λ now.

@@ -1,65 +1,20 @@
--- What a packet is, is no timeout, and no step sends an Echo-Request.
-use Rattle.std.proofs.Common.{◌≡◌, ℕ, Bool, true, false, cond, Option, Some, None, List, [], ◌∷◌, ◌++◌, refl, ap, sym, ◌∙◌, subst}
-use Rattle.std.specs.Prelude.{◌==◌, ◌&&◌, ◌||◌, nat_lt, nat_le, nat_eq, length, slice_index, option_map, option_to_list}
+-- No step sends an Echo-Request, and it sends a Nak where the answer is one and is sent.
+use Rattle.std.proofs.Common.{◌≡◌, ℕ, Bool, true, false, cond, Option, Some, None, List, [], ◌∷◌, ◌++◌, refl, ap, ◌∙◌}
+use Rattle.std.specs.Prelude.{◌==◌, ◌||◌, option_map, option_to_list, find}
 use Rattle.std.specs.List.{list_any}
-use Rattle.std.specs.Cmp.Lexicographic.{pointwise}
 use Rattle.ppp_fsm.specs.declared.event.FsmEvent.{FsmEvent}
-use Rattle.ppp_fsm.specs.declared.event.FsmEvent.TheVariants.{Rtr, Rta, Ruc, RxjGood, RxjBad, Rxr}
 use Rattle.ppp_fsm.specs.declared.acts.Act.{Act}
 use Rattle.ppp_fsm.specs.declared.acts.Act.TheVariants.{Tlu, Tld, Tls, Tlf, Irc, Zrc, Scr, Sca, Scn, Str, Sta, Scj, Ser}
 use Rattle.ppp_fsm.specs.Fsm.{acts_of}
 use Rattle.ppp_packet.specs.declared.packet.Packet.{Packet}
-use Rattle.ppp_packet.specs.OptionsOf.{Item, laid}
-use Rattle.ppp_packet.specs.OptionList.{read_options}
-use Rattle.ppp_control.specs.declared.parts.Request.{Request}
-use Rattle.ppp_control.specs.declared.classes.HeardAs.{HeardAs}
-use Rattle.ppp_control.specs.declared.classes.HeardAs.TheVariants.{Request as Asks, Ack as Acked, Nak as Named, Reject as Rejected, Event, Discarded}
+use Rattle.ppp_packet.specs.OptionsOf.{laid}
 use Rattle.ppp_control.specs.declared.negotiation.Negotiation.{Negotiation}
 use Rattle.ppp_control.specs.declared.judging.Verdict.{Verdict}
 use Rattle.ppp_control.specs.declared.judging.Verdict.TheVariants.{Ack, Nak, Reject}
-use Rattle.ppp_control.specs.Class.{heard_as, asks_of, nak_of, reject_of, is_last, last_options, is_selection}
 use Rattle.ppp_control.specs.Given.{Given}
-use Rattle.ppp_control.specs.Step.{left_by, sent_by, sent_by_all, moved, step_sends, packet, requested, request_packet, terminated, terminate_packet, verdict_packet}
-use Rattle.ppp_control.specs.Past.{is_timeout}
-
-abbrev IsNoTimeout : HeardAs → Type 0
-IsNoTimeout (Asks items) = Unit {0}
-IsNoTimeout Acked = Unit {0}
-IsNoTimeout (Named items) = Unit {0}
-IsNoTimeout (Rejected items) = Unit {0}
-IsNoTimeout (Event event) = is_timeout (Some event) ≡ false
-IsNoTimeout Discarded = Unit {0}
-
-one_of : (b : Bool) (x y : HeardAs) → IsNoTimeout x → IsNoTimeout y → IsNoTimeout (cond b x y)
-one_of true x y h k = h
-one_of false x y h k = k
-
-by_asks : (o : Option (List Item)) → IsNoTimeout (asks_of o)
-by_asks None = tt
-by_asks (Some items) = tt
-
-by_nak : (o : Option (List Item)) → IsNoTimeout (nak_of o)
-by_nak None = tt
-by_nak (Some items) = tt
-
-by_reject : (many : List Item) (o : Option (List Item)) → IsNoTimeout (reject_of many o)
-by_reject many None = tt
-by_reject many (Some items) = one_of (is_selection items many) (Rejected items) Discarded tt tt
-
-no_timeout : (is_lcp : Bool) (request : Option Request) (p : Packet) → IsNoTimeout (heard_as is_lcp request p)
-no_timeout is_lcp request p =
-    one_of (p.code == 1) _ _ (by_asks (read_options p.body))
-    (one_of (p.code == 2) _ _ (one_of (is_last request p.id && pointwise nat_eq p.body (laid (last_options request))) Acked Discarded tt tt)
-    (one_of (p.code == 3) _ _ (one_of (is_last request p.id) _ Discarded (by_nak (read_options p.body)) tt)
-    (one_of (p.code == 4) _ _ (one_of (is_last request p.id) _ Discarded (by_reject (last_options request) (read_options p.body)) tt)
-    (one_of (p.code == 5) (Event Rtr) _ refl
-    (one_of (p.code == 6) (Event Rta) _ refl
-    (one_of (p.code == 7) _ _ (one_of (nat_lt (length p.body) 1) Discarded _ tt (one_of (nat_le 1 (slice_index p.body 0) && nat_le (slice_index p.body 0) 7) (Event RxjBad) (Event RxjGood) refl refl))
-    (one_of (is_lcp && p.code == 8) _ _ (one_of (nat_le 2 (length p.body)) (Event RxjGood) Discarded refl tt)
-    (one_of (is_lcp && nat_le 9 p.code && nat_le p.code 11) _ (Event Ruc) (one_of (nat_le 4 (length p.body)) (Event Rxr) Discarded refl tt) refl))))))))
-
-pub heard_no_timeout : (is_lcp : Bool) (request : Option Request) (p : Packet) (event : FsmEvent) → Event event ≡ heard_as is_lcp request p → false ≡ is_timeout (Some event)
-heard_no_timeout is_lcp request p event e = let found : IsNoTimeout (Event event) = subst IsNoTimeout (sym e) (no_timeout is_lcp request p) in sym found
+use Rattle.ppp_control.specs.Step.{left_by, sent_by, sent_by_all, moved, step_sends, requested, terminated}
+use Rattle.ppp_control.specs.OwnPackets.{packet, request_packet, terminate_packet, verdict_packet}
+use Rattle.ppp_control.specs.Rules.{is_nak, is_scn}
 
 -- whether some packet of two lists is one
 pub any_more : (test : Packet → Bool) (xs ys : List Packet) → list_any test (xs ++ ys) ≡ (list_any test xs || list_any test ys)
@@ -105,3 +60,41 @@ no_echoes o (act ∷ acts) n =
 pub step_sends_no_echo : (o : Given) (event : FsmEvent) (n : Negotiation) → list_any (λ p. p.code == 9) (step_sends o event n) ≡ false
 unfolding step_sends
 step_sends_no_echo o event n = no_echoes o (acts_of n.fsm event) (moved event n)
+
+-- A Nak is sent exactly where the answer is one and is sent.
+abbrev pub nak_in : ℕ → Verdict → Option Packet
+nak_in id Ack = None
+nak_in id (Nak items) = Some (packet 3 id (laid items))
+nak_in id (Reject items) = None
+
+nak_of_verdict : (id : ℕ) (v : Verdict) (rest : List Packet) (b : Bool) → find is_nak rest ≡ cond b (nak_in id v) None
+    → find is_nak (option_to_list (verdict_packet id v) ++ rest) ≡ nak_in id v
+nak_of_verdict id Ack rest true e = e
+nak_of_verdict id Ack rest false e = e
+nak_of_verdict id (Nak items) rest b e = refl
+nak_of_verdict id (Reject items) rest true e = e
+nak_of_verdict id (Reject items) rest false e = e
+
+no_nak : {X : Type 0} (f : X → Packet) (o : Option X) (rest : List Packet) → ((x : X) → is_nak (f x) ≡ false) → find is_nak (option_to_list (option_map f o) ++ rest) ≡ find is_nak rest
+no_nak f None rest h = refl
+no_nak f (Some x) rest h = ap (λ b. cond b (Some (f x)) (find is_nak rest)) (h x)
+
+naks_sent : (o : Given) (acts : List Act) (n : Negotiation) → find is_nak (sent_by_all o n acts) ≡ cond (list_any is_scn acts) (nak_in o.id o.verdict) None
+naks_sent o [] n = refl
+naks_sent o (Scn ∷ acts) n = nak_of_verdict o.id o.verdict (sent_by_all o (left_by o n Scn) acts) (list_any is_scn acts) (naks_sent o acts (left_by o n Scn))
+naks_sent o (Scr ∷ acts) n = no_nak request_packet (requested o n).request _ (λ x. refl) ∙ naks_sent o acts (left_by o n Scr)
+naks_sent o (Str ∷ acts) n = no_nak terminate_packet (terminated o n).terminate _ (λ x. refl) ∙ naks_sent o acts (left_by o n Str)
+naks_sent o (Ser ∷ acts) n = no_nak (λ body. packet 10 o.id body) o.reply _ (λ x. refl) ∙ naks_sent o acts n
+naks_sent o (Sca ∷ acts) n = naks_sent o acts (left_by o n Sca)
+naks_sent o (Sta ∷ acts) n = naks_sent o acts n
+naks_sent o (Scj ∷ acts) n = naks_sent o acts (left_by o n Scj)
+naks_sent o (Zrc ∷ acts) n = naks_sent o acts (left_by o n Zrc)
+naks_sent o (Irc ∷ acts) n = naks_sent o acts n
+naks_sent o (Tlu ∷ acts) n = naks_sent o acts n
+naks_sent o (Tld ∷ acts) n = naks_sent o acts n
+naks_sent o (Tls ∷ acts) n = naks_sent o acts n
+naks_sent o (Tlf ∷ acts) n = naks_sent o acts n
+
+pub nak_sent : (o : Given) (event : FsmEvent) (n : Negotiation) → find is_nak (step_sends o event n) ≡ cond (list_any is_scn (acts_of n.fsm event)) (nak_in o.id o.verdict) None
+unfolding step_sends
+nak_sent o event n = naks_sent o (acts_of n.fsm event) (moved event n)

@@ -6,3 +6,8 @@ pub mod TimingLemmas
 pub mod TableLemmas
 pub mod AckedLemmas
 pub mod HeardLemmas
+pub mod SentLemmas
+pub mod RulesLemmas
+pub mod AgreementLemmas
+pub mod AckSentLemmas
+pub mod AnsweringLemmas

@@ -12,7 +12,8 @@ use Rattle.ppp_control.specs.declared.negotiation.Negotiation.{Negotiation}
 use Rattle.ppp_control.specs.declared.judging.Verdict.{Verdict}
 use Rattle.ppp_control.specs.declared.judging.Verdict.TheVariants.{Ack, Nak, Reject}
 use Rattle.ppp_control.specs.Given.{Given}
-use Rattle.ppp_control.specs.Step.{left_by, sent_by, left_by_all, sent_by_all, next_of, packet, request_packet, terminate_packet, restarted, answered, verdict_packet}
+use Rattle.ppp_control.specs.Step.{left_by, sent_by, left_by_all, sent_by_all, next_of, restarted, answered}
+use Rattle.ppp_control.specs.OwnPackets.{packet, request_packet, terminate_packet, verdict_packet}
 use Rattle.ppp_control.specs.Past.{onto, last_of, last_request, request_in, id_in, options_in, naks_since, takes_id, taken_by}
 
 -- A negotiation has what these packets, the newest first, leave, of which so many took an identifier.
@@ -22,6 +23,11 @@ pub record Follows (repeats : Bool) (n : Negotiation) (log : List Packet) (taken
   pub naks : n.naks ≡ min (naks_since log) 255
   pub acknowledged : n.acknowledged ≡ options_in (last_of 2 log)
   pub next_id : n.next_id ≡ (1 + taken) % 256
+
+-- The restart time and the codes are the same.
+pub record SameSettings (a b : Negotiation) : Type 0 where
+  pub restart_ms : a.restart_ms ≡ b.restart_ms
+  pub is_lcp : a.is_lcp ≡ b.is_lcp
 
 pub next_taken : (t : ℕ) → next_of ((1 + t) % 256) ≡ (1 + (t + 1)) % 256
 next_taken t = omega arith
@@ -214,13 +220,52 @@ pub acts_fsm : (o : Given) (acts : List Act) (n : Negotiation) → (left_by_all 
 acts_fsm o [] n = refl
 acts_fsm o (act ∷ acts) n = acts_fsm o acts (left_by o n act) ∙ act_fsm o n act
 
+-- acts leave the restart time and the codes
+settings_of_choice : (b : Bool) (m n old : Negotiation) → SameSettings m old → SameSettings n old → SameSettings (cond b m n) old
+settings_of_choice true m n old e f = e
+settings_of_choice false m n old e f = f
+
+act_settings : (o : Given) (n : Negotiation) (act : Act) → SameSettings (left_by o n act) n
+act_settings o n Scr = settings_of_choice (o.repeats && is_some n.request) _ _ n (record { restart_ms = refl; is_lcp = refl }) (record { restart_ms = refl; is_lcp = refl })
+act_settings o n Str = settings_of_choice (o.repeats && is_some n.terminate) _ _ n (record { restart_ms = refl; is_lcp = refl }) (record { restart_ms = refl; is_lcp = refl })
+act_settings o n Scn = by_verdict o.verdict n
+  where
+    by_verdict : (v : Verdict) (n : Negotiation) → SameSettings (answered v n) n
+    by_verdict Ack n = record { restart_ms = refl; is_lcp = refl }
+    by_verdict (Nak items) n = record { restart_ms = refl; is_lcp = refl }
+    by_verdict (Reject items) n = record { restart_ms = refl; is_lcp = refl }
+act_settings o n Sca = record { restart_ms = refl; is_lcp = refl }
+act_settings o n Sta = record { restart_ms = refl; is_lcp = refl }
+act_settings o n Scj = record { restart_ms = refl; is_lcp = refl }
+act_settings o n Ser = record { restart_ms = refl; is_lcp = refl }
+act_settings o n Zrc = record { restart_ms = refl; is_lcp = refl }
+act_settings o n Irc = record { restart_ms = refl; is_lcp = refl }
+act_settings o n Tlu = record { restart_ms = refl; is_lcp = refl }
+act_settings o n Tld = record { restart_ms = refl; is_lcp = refl }
+act_settings o n Tls = record { restart_ms = refl; is_lcp = refl }
+act_settings o n Tlf = record { restart_ms = refl; is_lcp = refl }
+
+pub acts_settings : (o : Given) (acts : List Act) (n : Negotiation) → SameSettings (left_by_all o n acts) n
+acts_settings o [] n = record { restart_ms = refl; is_lcp = refl }
+acts_settings o (act ∷ acts) n =
+    let rest = acts_settings o acts (left_by o n act) in
+    let one = act_settings o n act in
+    record { restart_ms = rest.restart_ms ∙ one.restart_ms; is_lcp = rest.is_lcp ∙ one.is_lcp }
+
+pub timed_settings : (low high : Bool) (n : Negotiation) → SameSettings (cond low (record n { restart_at = None }) (cond high (record n { restart_at = None }) n)) n
+timed_settings true high n = record { restart_ms = refl; is_lcp = refl }
+timed_settings false true n = record { restart_ms = refl; is_lcp = refl }
+timed_settings false false n = record { restart_ms = refl; is_lcp = refl }
+
 -- negotiations with the same parts are the same
-pub same_negotiation : (a b : Negotiation) → a.fsm ≡ b.fsm → a.next_id ≡ b.next_id → a.request ≡ b.request → a.terminate ≡ b.terminate → a.naks ≡ b.naks → a.acknowledged ≡ b.acknowledged → a.restart_at ≡ b.restart_at → a ≡ b
-same_negotiation a b e1 e2 e3 e4 e5 e6 e7 =
-    ap (λ x. record a { fsm = x }) e1
-    ∙ ap (λ x. record a { fsm = b.fsm; next_id = x }) e2
-    ∙ ap (λ x. record a { fsm = b.fsm; next_id = b.next_id; request = x }) e3
-    ∙ ap (λ x. record a { fsm = b.fsm; next_id = b.next_id; request = b.request; terminate = x }) e4
-    ∙ ap (λ x. record a { fsm = b.fsm; next_id = b.next_id; request = b.request; terminate = b.terminate; naks = x }) e5
-    ∙ ap (λ x. record a { fsm = b.fsm; next_id = b.next_id; request = b.request; terminate = b.terminate; naks = b.naks; acknowledged = x }) e6
+pub same_negotiation : (a b : Negotiation) → a.restart_ms ≡ b.restart_ms → a.is_lcp ≡ b.is_lcp → a.fsm ≡ b.fsm → a.next_id ≡ b.next_id → a.request ≡ b.request → a.terminate ≡ b.terminate → a.naks ≡ b.naks → a.acknowledged ≡ b.acknowledged → a.restart_at ≡ b.restart_at → a ≡ b
+same_negotiation a b d1 d2 e1 e2 e3 e4 e5 e6 e7 =
+    ap (λ x. record a { restart_ms = x }) d1
+    ∙ ap (λ x. record a { restart_ms = b.restart_ms; is_lcp = x }) d2
+    ∙ ap (λ x. record a { restart_ms = b.restart_ms; is_lcp = b.is_lcp; fsm = x }) e1
+    ∙ ap (λ x. record a { restart_ms = b.restart_ms; is_lcp = b.is_lcp; fsm = b.fsm; next_id = x }) e2
+    ∙ ap (λ x. record a { restart_ms = b.restart_ms; is_lcp = b.is_lcp; fsm = b.fsm; next_id = b.next_id; request = x }) e3
+    ∙ ap (λ x. record a { restart_ms = b.restart_ms; is_lcp = b.is_lcp; fsm = b.fsm; next_id = b.next_id; request = b.request; terminate = x }) e4
+    ∙ ap (λ x. record b { naks = x; acknowledged = a.acknowledged; restart_at = a.restart_at }) e5
+    ∙ ap (λ x. record b { acknowledged = x; restart_at = a.restart_at }) e6
     ∙ ap (λ x. record b { restart_at = x }) e7

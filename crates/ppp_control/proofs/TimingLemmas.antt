@@ -9,12 +9,13 @@ use Rattle.ppp_control.specs.declared.negotiation.Negotiation.{Negotiation}
 use Rattle.ppp_control.specs.declared.judging.Verdict.{Verdict}
 use Rattle.ppp_control.specs.declared.judging.Verdict.TheVariants.{Ack, Nak, Reject}
 use Rattle.ppp_control.specs.Given.{Given}
-use Rattle.ppp_control.specs.Step.{left_by, left_by_all, requested, terminated, answered, moved, stepped, step_sends, packet, next_of}
+use Rattle.ppp_control.specs.Step.{left_by, left_by_all, requested, terminated, answered, moved, stepped, step_sends, next_of}
+use Rattle.ppp_control.specs.OwnPackets.{packet}
 use Rattle.ppp_fsm.specs.Fsm.{after}
 use Rattle.ppp_fsm.specs.declared.fsm.Limits.{Limits}
 use Rattle.ppp_packet.specs.declared.packet.Packet.{Packet}
 use Rattle.ppp_control.specs.Past.{Happened, sets_timer, onto, taken_by, taken_in, sent_in, is_timeout, automaton_after, negotiation_after, restart_after}
-use Rattle.ppp_control.proofs.PastLemmas.{Follows, acts_back, acts_fsm, follows_timed, follows_moved, same_negotiation, no_more, next_taken}
+use Rattle.ppp_control.proofs.PastLemmas.{SameSettings, acts_settings, timed_settings, Follows, acts_back, acts_fsm, follows_timed, follows_moved, same_negotiation, no_more, next_taken}
 
 either_way : {A : Type 0} (b : Bool) (x : A) → cond b x x ≡ x
 either_way true x = refl
@@ -79,6 +80,14 @@ fsm_back o event n =
     let m : Negotiation = left_by_all o (moved event n) (acts_of n.fsm event) in
     stopped_state (nat_lt m.fsm.state 4) (nat_lt 8 m.fsm.state) m ∙ acts_fsm o (acts_of n.fsm event) (moved event n)
 
+settings_back : (o : Given) (event : FsmEvent) (n : Negotiation) → SameSettings (stepped o event n) n
+unfolding stepped
+settings_back o event n =
+    let m : Negotiation = left_by_all o (moved event n) (acts_of n.fsm event) in
+    let timing = timed_settings (nat_lt m.fsm.state 4) (nat_lt 8 m.fsm.state) m in
+    let acting = acts_settings o (acts_of n.fsm event) (moved event n) in
+    record { restart_ms = timing.restart_ms ∙ acting.restart_ms; is_lcp = timing.is_lcp ∙ acting.is_lcp }
+
 pub follows_back : (o : Given) (event : FsmEvent) (n : Negotiation) (log : List Packet) (t : ℕ) → Follows o.repeats n log t
     → Follows o.repeats (stepped o event n) (onto (step_sends o event n) log) (t + taken_by o.repeats log (step_sends o event n))
 unfolding stepped step_sends
@@ -87,15 +96,18 @@ follows_back o event n log t h =
     follows_timed (nat_lt m.fsm.state 4) (nat_lt 8 m.fsm.state) o.repeats m _ _ (acts_back o (acts_of n.fsm event) (moved event n) log t (follows_moved (after n.fsm event) o.repeats n log t h))
 
 -- A step of what looking back gives is what looking back gives with it.
-pub step_back : (limits : Limits) (past : List Happened) (heard : Option Packet) (o : Given) (event : FsmEvent) (n : Negotiation) → n ≡ negotiation_after limits o.restart_ms past → o.repeats ≡ is_timeout (Some event)
-    → stepped o event n ≡ negotiation_after limits o.restart_ms (record { now = o.now; heard = heard; event = Some event; acts = acts_of n.fsm event; packets = step_sends o event n } ∷ past)
-step_back limits past heard o event n e repeats =
+pub step_back : (limits : Limits) (is_lcp : Bool) (past : List Happened) (o : Given) (event : FsmEvent) (n : Negotiation) → n ≡ negotiation_after limits o.restart_ms is_lcp past → o.repeats ≡ is_timeout (Some event)
+    → stepped o event n ≡ negotiation_after limits o.restart_ms is_lcp (record { now = o.now; event = Some event; acts = acts_of n.fsm event; packets = step_sends o event n } ∷ past)
+step_back limits is_lcp past o event n e repeats =
     let t : ℕ = taken_in past in
     let log : List Packet = sent_in past in
     let before : Follows o.repeats n log t = record { request = ap (λ x. x.request) e; terminate = ap (λ x. x.terminate) e; naks = ap (λ x. x.naks) e; acknowledged = ap (λ x. x.acknowledged) e; next_id = ap (λ x. x.next_id) e } in
     let now = follows_back o event n log t before in
     let fsm : n.fsm ≡ automaton_after limits past = ap (λ x. x.fsm) e in
+    let settings = settings_back o event n in
     same_negotiation _ _
+    (settings.restart_ms ∙ ap (λ x. x.restart_ms) e)
+    (settings.is_lcp ∙ ap (λ x. x.is_lcp) e)
     (fsm_back o event n ∙ ap (λ a. after a event) fsm)
     (now.next_id ∙ ap (λ b. (1 + (t + taken_by b log (step_sends o event n))) % 256) repeats)
     now.request now.terminate now.naks now.acknowledged
@@ -109,19 +121,19 @@ stays true high y = refl
 stays false true y = refl
 stays false false y = refl
 
-timer_stays : (limits : Limits) (ms now : ℕ) (heard : Option Packet) (packets : List Packet) (past : List Happened)
-    → restart_after limits ms (record { now = now; heard = heard; event = None; acts = []; packets = packets } ∷ past) ≡ restart_after limits ms past
-timer_stays limits ms now heard packets [] = refl
-timer_stays limits ms now heard packets (h ∷ past) =
+timer_stays : (limits : Limits) (ms now : ℕ) (packets : List Packet) (past : List Happened)
+    → restart_after limits ms (record { now = now; event = None; acts = []; packets = packets } ∷ past) ≡ restart_after limits ms past
+timer_stays limits ms now packets [] = refl
+timer_stays limits ms now packets (h ∷ past) =
     let state : ℕ = (automaton_after limits (h ∷ past)).state in
     stays (nat_lt state 4) (nat_lt 8 state) (cond (sets_timer h.acts) (Some (h.now + ms)) (restart_after limits ms past))
 
-pub quiet_back : (limits : Limits) (ms now : ℕ) (heard : Option Packet) (past : List Happened)
-    → negotiation_after limits ms (record { now = now; heard = heard; event = None; acts = []; packets = [] } ∷ past) ≡ negotiation_after limits ms past
-quiet_back limits ms now heard past = same_negotiation _ _ refl (ap (λ x. (1 + x) % 256) (sym (no_more (taken_in past)))) refl refl refl refl (timer_stays limits ms now heard [] past)
+pub quiet_back : (limits : Limits) (ms : ℕ) (is_lcp : Bool) (now : ℕ) (past : List Happened)
+    → negotiation_after limits ms is_lcp (record { now = now; event = None; acts = []; packets = [] } ∷ past) ≡ negotiation_after limits ms is_lcp past
+quiet_back limits ms is_lcp now past = same_negotiation _ _ refl refl refl (ap (λ x. (1 + x) % 256) (sym (no_more (taken_in past)))) refl refl refl refl (timer_stays limits ms now [] past)
 
 -- A packet that takes an identifier and is no answer: an Echo-Request or a Protocol-Reject.
-pub numbered_back : (limits : Limits) (ms now : ℕ) (is_echo : Bool) (id : ℕ) (body : List ℕ) (past : List Happened)
-    → negotiation_after limits ms (record { now = now; heard = None; event = None; acts = []; packets = packet (cond is_echo 9 8) id body ∷ [] } ∷ past) ≡ record (negotiation_after limits ms past) { next_id = next_of (negotiation_after limits ms past).next_id }
-numbered_back limits ms now true id body past = same_negotiation _ _ refl (sym (next_taken (taken_in past))) refl refl refl refl (timer_stays limits ms now None (packet 9 id body ∷ []) past)
-numbered_back limits ms now false id body past = same_negotiation _ _ refl (sym (next_taken (taken_in past))) refl refl refl refl (timer_stays limits ms now None (packet 8 id body ∷ []) past)
+pub numbered_back : (limits : Limits) (ms : ℕ) (is_lcp : Bool) (now : ℕ) (is_echo : Bool) (id : ℕ) (body : List ℕ) (past : List Happened)
+    → negotiation_after limits ms is_lcp (record { now = now; event = None; acts = []; packets = packet (cond is_echo 9 8) id body ∷ [] } ∷ past) ≡ record (negotiation_after limits ms is_lcp past) { next_id = next_of (negotiation_after limits ms is_lcp past).next_id }
+numbered_back limits ms is_lcp now true id body past = same_negotiation _ _ refl refl refl (sym (next_taken (taken_in past))) refl refl refl refl (timer_stays limits ms now (packet 9 id body ∷ []) past)
+numbered_back limits ms is_lcp now false id body past = same_negotiation _ _ refl refl refl (sym (next_taken (taken_in past))) refl refl refl refl (timer_stays limits ms now (packet 8 id body ∷ []) past)

@@ -3,11 +3,13 @@ use Rattle.std.specs.Prelude.{ℕ, ◌==◌, nat_lt, nat_le, nat_eq, ◌&&◌, B
 use Rattle.std.specs.Cmp.Lexicographic.{pointwise}
 use Rattle.ppp_base.specs.declared.code.TheConstants.{CODE_REJECT, CONFIGURE_ACK, CONFIGURE_NAK, CONFIGURE_REJECT, CONFIGURE_REQUEST, DISCARD_REQUEST, ECHO_REQUEST, PROTOCOL_REJECT, TERMINATE_ACK, TERMINATE_REQUEST}
 use Rattle.ppp_fsm.specs.declared.event.FsmEvent.{FsmEvent}
-use Rattle.ppp_fsm.specs.declared.event.FsmEvent.TheVariants.{RcrGood, RcrBad, Rca, Rcn, Rtr, Rta, Ruc, RxjGood, RxjBad, Rxr}
+use Rattle.ppp_fsm.specs.declared.event.FsmEvent.TheVariants.{Rca, Rcn, Rtr, Rta, Ruc, RxjGood, RxjBad, Rxr}
 use Rattle.ppp_packet.specs.declared.packet.Packet.{Packet}
 use Rattle.ppp_packet.specs.OptionsOf.{Item, laid}
 use Rattle.ppp_packet.specs.OptionList.{read_options}
 use Rattle.ppp_control.specs.declared.parts.Request.{Request}
+use Rattle.ppp_control.specs.declared.judging.Verdict.{Verdict}
+use Rattle.ppp_control.specs.Verdict.{event_on}
 use Rattle.ppp_control.specs.declared.classes.HeardAs.{HeardAs}
 use Rattle.ppp_control.specs.declared.classes.HeardAs.TheVariants.{Request as Asks, Ack, Nak, Reject, Event, Discarded}
 
@@ -71,11 +73,15 @@ heard_as is_lcp request p =
     else if is_lcp && nat_le ECHO_REQUEST p.code && nat_le p.code DISCARD_REQUEST then event_if (nat_le 4 (length p.body)) Rxr
     else Event Ruc
 
--- The event, where a request is acknowledged or not.
-abbrev pub class_of : Bool → HeardAs → Option FsmEvent
-class_of acks (Asks items) = Some (if acks then RcrGood else RcrBad)
-class_of acks Ack = Some Rca
-class_of acks (Nak items) = Some Rcn
-class_of acks (Reject items) = Some Rcn
-class_of acks (Event event) = Some event
-class_of acks Discarded = None
+-- The event, by the answer that a request has.
+abbrev pub class_of : (List Item → Verdict) → HeardAs → Option FsmEvent
+class_of answer (Asks items) = Some (event_on (answer items))
+class_of answer Ack = Some Rca
+class_of answer (Nak items) = Some Rcn
+class_of answer (Reject items) = Some Rcn
+class_of answer (Event event) = Some event
+class_of answer Discarded = None
+
+-- The event that a packet is, where this was our last request and a request of the peer's has this answer; none: it is discarded.
+abbrev pub Class : Bool → Option Request → (List Item → Verdict) → Packet → Option FsmEvent
+Class is_lcp request answer p = class_of answer (heard_as is_lcp request p)

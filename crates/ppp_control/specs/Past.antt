@@ -13,11 +13,9 @@ use Rattle.ppp_packet.specs.OptionList.{items_of}
 use Rattle.ppp_control.specs.declared.parts.Request.{Request}
 use Rattle.ppp_control.specs.declared.negotiation.Negotiation.{Negotiation}
 
--- What happened at a call: its moment, the packet that was heard, the event that this was, the acts, and the packets that were sent, in their
--- order. A history is a list of these, the newest first.
+-- What a call answered, and its moment: the event that it was, the acts, and the packets that were sent, in their order.
 pub record Happened : Type 0 where
   pub now : ℕ
-  pub heard : Option Packet
   pub event : Option FsmEvent
   pub acts : List Act
   pub packets : List Packet
@@ -105,8 +103,10 @@ restart_after limits restart_ms (h ∷ past) =
     else restart_after limits restart_ms past
 
 -- The negotiation as a whole.
-abbrev pub negotiation_after : Limits → ℕ → List Happened → Negotiation
-negotiation_after limits restart_ms past = record {
+abbrev pub negotiation_after : Limits → ℕ → Bool → List Happened → Negotiation
+negotiation_after limits restart_ms is_lcp past = record {
+  restart_ms = restart_ms;
+  is_lcp = is_lcp;
   fsm = automaton_after limits past;
   next_id = next_id_after past;
   request = last_request (sent_in past);
@@ -131,3 +131,15 @@ has_ack state = state == 7 || state == 9
 
 pub record IsAcked (limits : Limits) (past : List Happened) : Type 0 where
   pub last : has_ack (automaton_after limits past).state ≡ true → last_of CONFIGURE_REQUEST (sent_in past) ≡ last_acked past
+
+-- Whether the layer is up.
+abbrev pub is_open_after : Limits → List Happened → Bool
+is_open_after limits past = (automaton_after limits past).state == 9
+
+-- The options that both ends acknowledged, in Opened alone: of the last request of ours that the peer did, and of the last of the peer's that we did.
+pub record Agreement : Type 0 where
+  pub ours : List Item
+  pub theirs : List Item
+
+abbrev pub agreement_after : Limits → List Happened → Option Agreement
+agreement_after limits past = if is_open_after limits past then Some (record { ours = options_in (last_acked past); theirs = options_in (last_of CONFIGURE_ACK (sent_in past)) }) else None

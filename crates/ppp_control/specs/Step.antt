@@ -1,20 +1,17 @@
 -- A step of a negotiation: what each act of the automaton sends and changes.
 use Rattle.std.specs.Prelude.{ℕ, ◌+◌, ◌%◌, min, nat_lt, ◌&&◌, if◌then◌else◌, Option, Some, None, is_some, option_map, option_to_list, List, [], ◌∷◌, ◌++◌}
-use Rattle.ppp_base.specs.declared.code.TheConstants.{CODE_REJECT, CONFIGURE_ACK, CONFIGURE_NAK, CONFIGURE_REJECT, CONFIGURE_REQUEST, ECHO_REPLY, TERMINATE_ACK, TERMINATE_REQUEST}
+use Rattle.ppp_base.specs.declared.code.TheConstants.{CODE_REJECT, CONFIGURE_ACK, ECHO_REPLY, TERMINATE_ACK}
 use Rattle.ppp_fsm.specs.declared.event.FsmEvent.{FsmEvent}
 use Rattle.ppp_fsm.specs.declared.acts.Act.{Act}
 use Rattle.ppp_fsm.specs.declared.acts.Act.TheVariants.{Zrc, Scr, Sca, Scn, Str, Sta, Scj, Ser}
 use Rattle.ppp_fsm.specs.Fsm.{acts_of, after}
 use Rattle.ppp_packet.specs.declared.packet.Packet.{Packet}
 use Rattle.ppp_packet.specs.OptionsOf.{laid}
-use Rattle.ppp_control.specs.declared.parts.Request.{Request}
 use Rattle.ppp_control.specs.Given.{Given}
+use Rattle.ppp_control.specs.OwnPackets.{packet, request_packet, terminate_packet, verdict_packet}
 use Rattle.ppp_control.specs.declared.judging.Verdict.{Verdict}
 use Rattle.ppp_control.specs.declared.judging.Verdict.TheVariants.{Ack, Nak, Reject}
 use Rattle.ppp_control.specs.declared.negotiation.Negotiation.{Negotiation}
-
-abbrev pub packet : ℕ → ℕ → List ℕ → Packet
-packet code id body = record { code = code; id = id; body = body }
 
 -- 255 is followed by 0
 abbrev pub next_of : ℕ → ℕ
@@ -50,17 +47,6 @@ left_by o n Scn = answered o.verdict n
 left_by o n Scj = record n { next_id = next_of n.next_id }
 left_by o n Zrc = restarted o n
 left_by o n _ = n
-
-abbrev pub request_packet : Request → Packet
-request_packet r = packet CONFIGURE_REQUEST r.id (laid r.options)
-
-abbrev pub terminate_packet : ℕ → Packet
-terminate_packet id = packet TERMINATE_REQUEST id []
-
-abbrev pub verdict_packet : ℕ → Verdict → Option Packet
-verdict_packet id Ack = None
-verdict_packet id (Nak items) = Some (packet CONFIGURE_NAK id (laid items))
-verdict_packet id (Reject items) = Some (packet CONFIGURE_REJECT id (laid items))
 
 -- what an act sends: the last request, or an answer to what was heard
 abbrev pub sent_by : Given → Negotiation → Act → Option Packet

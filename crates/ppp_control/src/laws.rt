@@ -5,22 +5,39 @@ ghost use Rattle.ppp_fsm.specs.Fsm.{acts_of};
 ghost use Rattle.ppp_packet.specs.declared.packet.Packet.{Packet};
 ghost use Rattle.ppp_control.specs.declared.negotiation.Negotiation.{Negotiation};
 ghost use Rattle.ppp_control.specs.Given.{Given};
-ghost use Rattle.ppp_control.specs.Step.{stepped, step_sends, packet, next_of};
-ghost use Rattle.ppp_control.specs.Past.{Happened, negotiation_after, automaton_after, is_timeout, IsAcked};
+ghost use Rattle.ppp_control.specs.OwnPackets.{packet};
+ghost use Rattle.ppp_control.specs.Start.{started, agreement};
+ghost use Rattle.ppp_control.specs.Step.{stepped, step_sends, next_of};
+ghost use Rattle.ppp_control.specs.Past.{agreement_after};
+ghost use Rattle.ppp_control.specs.Rules.{happened_in, Rules, Call, hears, Called, IsLawful, Negotiates, aside, event_in, comes_with};
+ghost use Rattle.ppp_control.specs.Answering.{AllAnswer};
 
-/// What a step leaves is what looking back over it gives, where a timeout alone sends again.
-pub fn steps_look_back()
-    ensures { (limits : Limits) (past : List Happened) (heard : Option Packet) (o : Given) (event : FsmEvent) (n : Negotiation) → n ≡ negotiation_after limits o.restart_ms past → o.repeats ≡ is_timeout (Some event) → stepped o event n ≡ negotiation_after limits o.restart_ms (record { now = o.now; heard = heard; event = Some event; acts = acts_of n.fsm event; packets = step_sends o event n } ∷ past) }
+/// A negotiation begins with no calls.
+pub fn nothing_has_happened<A>()
+    ensures { (r : Rules A) → Negotiates r (started r.limits r.restart_ms r.is_lcp) [] }
 {}
 
-/// Where no event happens: nothing changes, or an Echo-Request 9 or a Protocol-Reject 8 takes the next identifier.
-pub fn calls_without_event_look_back()
-    ensures nothing { (limits : Limits) (ms now : ℕ) (heard : Option Packet) (past : List Happened) → negotiation_after limits ms (record { now = now; heard = heard; event = None; acts = []; packets = [] } ∷ past) ≡ negotiation_after limits ms past }
-    ensures numbered { (limits : Limits) (ms now id : ℕ) (is_echo : Bool) (body : List ℕ) (past : List Happened) → negotiation_after limits ms (record { now = now; heard = None; event = None; acts = []; packets = packet (if is_echo then 9 else 8) id body ∷ [] } ∷ past) ≡ record (negotiation_after limits ms past) { next_id = next_of (negotiation_after limits ms past).next_id } }
+/// A step by the event that looking back says, with what looking back says that it comes with, leaves what looking back says, and is lawful.
+pub fn steps_look_back<A>()
+    ensures { (r : Rules A) (past : List (Called A)) (n : Negotiation) (now : ℕ) (call : Call A) (event : FsmEvent) (g : Given) → Negotiates r n past → event_in r past now call ≡ Some event → g ≡ comes_with r past now event call
+        → Negotiates r (stepped g event n) (record { call = call; happened = record { now = now; event = Some event; acts = acts_of n.fsm event; packets = step_sends g event n } } ∷ past) }
 {}
 
-/// In Ack-Rcvd and in Opened the last request that was sent is the last that the peer acknowledged.
-pub fn last_request_is_acked()
-    ensures none { (limits : Limits) → IsAcked limits [] }
-    ensures stays { (limits : Limits) (past : List Happened) (heard : Option Packet) (o : Given) (event : FsmEvent) (n : Negotiation) → n.fsm ≡ automaton_after limits past → IsAcked limits past → IsAcked limits (record { now = o.now; heard = heard; event = Some event; acts = acts_of n.fsm event; packets = step_sends o event n } ∷ past) }
+/// A call that is no event leaves all as it was, but that an Echo-Request 9 or a Protocol-Reject 8 takes the next identifier.
+pub fn calls_without_event_look_back<A>()
+    ensures nothing { (r : Rules A) (past : List (Called A)) (n : Negotiation) (now : ℕ) (call : Call A) → Negotiates r n past → event_in r past now call ≡ None → aside r past now call ≡ []
+        → Negotiates r n (record { call = call; happened = record { now = now; event = None; acts = []; packets = [] } } ∷ past) }
+    ensures numbered { (r : Rules A) (past : List (Called A)) (n : Negotiation) (now : ℕ) (call : Call A) (is_echo : Bool) (body : List ℕ) → Negotiates r n past → event_in r past now call ≡ None
+        → aside r past now call ≡ packet (if is_echo then 9 else 8) n.next_id body ∷ []
+        → Negotiates r (record n { next_id = next_of n.next_id }) (record { call = call; happened = record { now = now; event = None; acts = []; packets = packet (if is_echo then 9 else 8) n.next_id body ∷ [] } } ∷ past) }
+{}
+
+/// What both ends acknowledged is what the negotiation has.
+pub fn both_acknowledged<A>()
+    ensures { (r : Rules A) (past : List (Called A)) (n : Negotiation) → Negotiates r n past → agreement n ≡ agreement_after r.limits (happened_in past) }
+{}
+
+/// Of the packets that a call sends, each answer has the identifier of the packet that was heard, an Ack its data too, and a Code-Reject its octets.
+pub fn answers_are_of_what_was_heard<A>()
+    ensures { (r : Rules A) (past : List (Called A)) (c : Called A) (p : Packet) (a : A) → c.call ≡ hears p a → IsLawful r c past → AllAnswer p c.happened.packets }
 {}

@@ -1,4 +1,4 @@
-ghost use Rattle.std.specs.Prelude.{◌≡◌, ◌-◌, ◌<◌};
+ghost use Rattle.std.specs.Prelude.{◌≡◌, ◌-◌, ◌<◌, ◌≤◌};
 
 use crate::acts::Acts;
 use crate::event::FsmEvent;
@@ -93,7 +93,8 @@ impl Fsm {
 
     /// The number of the state, from Initial 0 to Opened 9.
     pub fn state(&self) -> u8
-        ensures { result ≡ self.now.state }
+        ensures number { result ≡ self.now.state }
+        ensures few { result ≤ 9 }
     {
         self.state.number()
     }

@@ -1,5 +1,8 @@
+pub mod OursLemmas
 pub mod SessionLemmas
-pub mod QuietLemmas
-pub mod HeardLemmas
 pub mod AgreedLemmas
-pub mod ClassLemmas
+pub mod EventLemmas
+pub mod HeardLemmas
+pub mod QuietLemmas
+pub mod RangeLemmas
+pub mod TimerLemmas

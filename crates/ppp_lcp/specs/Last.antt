@@ -1,39 +1,32 @@
 -- What the options of two acknowledged requests mean. Of two options of one type the later holds.
-use Rattle.std.specs.Prelude.{ℕ, ◌==◌, nat_le, ◌&&◌, min, if◌then◌else◌, Option, Some, None, is_some, List, [], ◌∷◌, length}
+use Rattle.std.specs.Prelude.{ℕ, ◌≤◌, ◌==◌, nat_le, ◌&&◌, min, if◌then◌else◌, Option, Some, None, is_some, List, [], ◌∷◌, length}
 use Rattle.ppp_base.specs.declared.send_settings.TheConstants.{DEFAULT_MAP}
-use Rattle.ppp_base.specs.declared.mrru.TheConstants.{DEFAULT_MRU, LEAST_MRRU, MOST_MRRU}
+use Rattle.ppp_base.specs.declared.mrru.TheConstants.{DEFAULT_MRU, LEAST_MRU, LEAST_MRRU, MOST_MRRU}
 use Rattle.ppp_base.specs.Disc.{Discriminator}
 use Rattle.ppp_base.specs.Mrru.{MrruPair}
 use Rattle.ppp_packet.specs.OptionsOf.{Item}
+use Rattle.ppp_control.specs.Changes.{last_body}
 use Rattle.ppp_packet.specs.declared.agreed.Agreed.{Agreed}
 use Rattle.ppp_packet.specs.declared.agreed.Method.{Method}
 use Rattle.ppp_packet.specs.declared.agreed.Method.TheVariants.{Pap, Chap}
 use Rattle.ppp_lcp.specs.Table.{number2, number4, is_chap, is_pap}
 
--- the last option of a type
-abbrev pub last_from : Option (List ℕ) → ℕ → List Item → Option (List ℕ)
-last_from found kind [] = found
-last_from found kind (i ∷ items) = last_from (if i.kind == kind then Some i.body else found) kind items
-
-abbrev pub last_body : ℕ → List Item → Option (List ℕ)
-last_body kind items = last_from None kind items
-
--- its number, or a default where there is none
+-- an option's number, or a default where there is none
 abbrev pub number2_or : Option (List ℕ) → ℕ → ℕ
 number2_or None default = default
-number2_or (Some body) default = if nat_le 2 (length body) then number2 body else default
+number2_or (Some body) default = if length body == 2 then number2 body else default
 
 abbrev pub number4_or : Option (List ℕ) → ℕ → ℕ
 number4_or None default = default
-number4_or (Some body) default = if nat_le 4 (length body) then number4 body else default
+number4_or (Some body) default = if length body == 4 then number4 body else default
 
 -- by what the other end is asked to prove who it is
-abbrev pub method_of : Option (List ℕ) → Option Method
-method_of None = None
-method_of (Some body) = if is_chap body then Some Chap else if is_pap body then Some Pap else None
+abbrev pub method_named : Option (List ℕ) → Option Method
+method_named None = None
+method_named (Some body) = if is_chap body then Some Chap else if is_pap body then Some Pap else None
 
 abbrev pub method_in : List Item → Option Method
-method_in items = method_of (last_body 3 items)
+method_in items = method_named (last_body 3 items)
 
 -- a class that isn't 0, and an address of at most 20 octets
 abbrev pub discriminator_in : List ℕ → Option Discriminator
@@ -65,3 +58,8 @@ agreed_by ours theirs = record {
   send = record { map = number4_or (last_body 2 theirs) DEFAULT_MAP; pfc = is_some (last_body 7 theirs); acfc = is_some (last_body 8 theirs) };
   receive_map = number4_or (last_body 2 ours) DEFAULT_MAP;
 }
+
+-- the MRU that is told is 128 to 1500
+abbrev pub IsInRange : Option Agreed → Type 0
+IsInRange None = Unit {0}
+IsInRange (Some agreed) = (LEAST_MRU ≤ agreed.peer_mru) × (agreed.peer_mru ≤ DEFAULT_MRU)

@@ -1,7 +1,8 @@
 ghost use Rattle.std.specs.Prelude.{◌≡◌, ◌≤◌, nat_le, length};
 ghost use Rattle.ppp_control.specs.Answers.{answer_to};
 ghost use Rattle.ppp_control.specs.Judging.{judgement_of, answer_of, IsShort};
-ghost use Rattle.ppp_lcp.specs.Verdict.{verdict_of, verdict_to, verdict_where};
+ghost use Rattle.ppp_control.specs.Verdict.{verdict_of};
+ghost use Rattle.ppp_lcp.specs.Verdict.{verdict_to, verdict_where};
 ghost use Rattle.ppp_lcp.specs.Table.{octets_judged, judged_where, is_chap, is_pap, number2, number4, mru_judged, mrru_judged, authentication_judged, magic_judged, acked_if};
 
 use crate::wish::LcpWish;

@@ -1,24 +1,12 @@
 ghost use Rattle.std.specs.Prelude.{◌≡◌, ◌≤◌, length, option_map};
 ghost use Rattle.std.specs.Option.{option_copied};
-ghost use Rattle.ppp_lcp.specs.Last.{last_body, number2_or, number4_or, method_of, method_in, agreed_by, mrru_pair, number2_of, discriminator_of};
+ghost use Rattle.ppp_control.specs.Changes.{last_body};
+ghost use Rattle.ppp_lcp.specs.Last.{number2_or, number4_or, method_named, method_in, agreed_by, mrru_pair, number2_of, discriminator_of};
 
 use crate::judge::{is_chap, is_pap, number2, number4};
 use ppp_base::{DEFAULT_MAP, DEFAULT_MRU, Disc, Mrru, SendSettings};
+use ppp_control::last_body;
 use ppp_packet::{Agreed, Method, OptionList};
-
-// The data of the last option of a type.
-pub(crate) fn last_body(items: &OptionList, kind: u8) -> Option<&[u8]>
-    ensures { option_copied result ≡ last_body kind items.now }
-{
-    let mut walk = items.iter();
-    let mut found = None;
-    'finding: while let Some(seen) = walk.next() {
-        if seen.kind == kind {
-            found = Some(seen.body);
-        }
-    }
-    found
-}
 
 // The number of an option's two octets.
 pub(crate) fn number2_or(body: Option<&[u8]>, default: u16) -> u16
@@ -26,7 +14,7 @@ pub(crate) fn number2_or(body: Option<&[u8]>, default: u16) -> u16
 {
     match body {
         Some(body) => {
-            if body.len() >= 2 {
+            if body.len() == 2 {
                 number2(body)
             } else {
                 default
@@ -42,7 +30,7 @@ pub(crate) fn number4_or(body: Option<&[u8]>, default: u32) -> u32
 {
     match body {
         Some(body) => {
-            if body.len() >= 4 {
+            if body.len() == 4 {
                 number4(body)
             } else {
                 default
@@ -52,8 +40,8 @@ pub(crate) fn number4_or(body: Option<&[u8]>, default: u32) -> u32
     }
 }
 
-fn method_of(body: Option<&[u8]>) -> Option<Method>
-    ensures { result ≡ method_of (option_copied body.entry) }
+fn method_named(body: Option<&[u8]>) -> Option<Method>
+    ensures { result ≡ method_named (option_copied body.entry) }
 {
     match body {
         Some(body) => {
@@ -73,7 +61,7 @@ fn method_of(body: Option<&[u8]>) -> Option<Method>
 pub(crate) fn method_in(items: &OptionList) -> Option<Method>
     ensures { result ≡ method_in items.now }
 {
-    method_of(last_body(items, 3))
+    method_named(last_body(items, 3))
 }
 
 fn discriminator_of(body: Option<&[u8]>) -> Option<Disc>

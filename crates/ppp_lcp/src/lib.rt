@@ -5,7 +5,7 @@
 //! each call is told the time in milliseconds and answers what is to be sent in its `LcpOut`. The automaton, the
 //! identifiers and the restart timer are those of `ppp_control`.
 //!
-//! What a session has come to stands in `specs/Session.antt`: each part is found by looking back over its calls.
+//! LCP is a value of `ppp_control`'s rules, which stands in `specs/Session.antt` with what a session has come to: all by looking back over its calls.
 #![tactic(auto)]
 
 mod judge;

@@ -1,10 +1,12 @@
 ghost use Rattle.std.specs.Prelude.{◌≡◌, ◌+◌, ◌≤◌, ◌++◌, [], ◌∷◌, length, if◌then◌else◌};
 ghost use Rattle.ppp_packet.specs.OptionsOf.{item, laid};
-ghost use Rattle.ppp_lcp.specs.Ours.{first_method};
+ghost use Rattle.ppp_lcp.specs.Ours.{first_method, fits_mru, fits_mrru, allowed_method};
 
 use crate::judge::{is_chap, is_pap, number2, number4};
+use crate::magic::has_magic;
 use crate::wish::LcpWish;
 use ppp_base::{DEFAULT_MRU, LEAST_MRRU, LEAST_MRU, RandomWords};
+use ppp_control::names_kind;
 use ppp_packet::{Body, Method, OptionList};
 use rand_core::Rng;
 
@@ -60,12 +62,40 @@ fn first_method(wish: &LcpWish) -> Option<Method>
     }
 }
 
-impl Ours {
-    ghost use Rattle.ppp_lcp.specs.Ours.{drawn, asks, asks_method, asks_disc, nak_item, nak_mru, nak_mrru, rejected_kind, after_nak, after_reject, first, word_of, skipped};
+// Whether an option's data are an MRU that we take.
+fn fits_mru(wish: &LcpWish, body: &[u8]) -> bool
+    ensures { result ≡ fits_mru wish.now body.now }
+{
+    body.len() == 2 && LEAST_MRU <= number2(body) && number2(body) <= wish.mru
+}
 
-    /// What the wish asks for, before a magic number has been drawn.
+// Whether they are an MRRU that we take.
+fn fits_mrru(wish: &LcpWish, body: &[u8]) -> bool
+    ensures { result ≡ fits_mrru wish.now body.now }
+{
+    body.len() == 2 && LEAST_MRRU <= number2(body) && number2(body) <= wish.mrru
+}
+
+// The method that they are, where it is allowed, or else another.
+fn allowed_method(wish: &LcpWish, body: &[u8], other: Option<Method>) -> Option<Method>
+    ensures { result ≡ allowed_method wish.now body.now other }
+{
+    if is_chap(body) && wish.want_chap {
+        Some(Method::Chap)
+    } else if is_pap(body) && wish.want_pap {
+        Some(Method::Pap)
+    } else {
+        other
+    }
+}
+
+impl Ours {
+    ghost use Rattle.ppp_lcp.specs.Ours.{word_of, skipped};
+    ghost use Rattle.ppp_lcp.specs.Taking.{drawn, asks, asks_method, asks_disc, ours_of, nak_item, nak_items, after_nak, after_reject};
+
+    /// What the wish asks for. The first word is our magic number, where we ask for one.
     pub fn new(wish: &LcpWish, words: u64) -> Ours
-        ensures { result ≡ first wish.now words }
+        ensures { result ≡ ours_of wish.now words [] }
     {
         let left_out = LeftOut {
             mru: false,
@@ -77,7 +107,7 @@ impl Ours {
             mrru: false,
             disc: false,
         };
-        Ours {
+        let mut ours = Ours {
             mru: wish.mru,
             map: wish.map,
             method: first_method(wish),
@@ -85,7 +115,11 @@ impl Ours {
             mrru: wish.mrru,
             generator: RandomWords::new(words),
             left_out,
+        };
+        if wish.magic {
+            ours.draw();
         }
+        ours
     }
 
     /// The next word, or 1 where it is 0.
@@ -116,7 +150,7 @@ impl Ours {
     }
 
     /// The options of a new request, in rising type.
-    #[tactic(auto, unfolding(crate::specs::Ours::asks))]
+    #[tactic(auto, unfolding(crate::specs::Taking::asks))]
     pub fn asks(&self, wish: &LcpWish) -> OptionList
         ensures { result ≡ asks wish.now self.now }
     {
@@ -182,82 +216,43 @@ impl Ours {
         }
     }
 
+    // What one option of a Nak changes.
     fn take_named(&mut self, wish: &LcpWish, kind: u8, body: &[u8])
         ensures { self.new ≡ nak_item wish.now self.old (item kind body.now) }
     {
-        match kind {
-            1 => self.take_mru(wish, body),
-            2 => {
-                if body.len() == 4 {
-                    self.map = self.map | number4(body);
-                }
-            }
-            3 => {
-                if is_chap(body) && wish.want_chap {
-                    self.method = Some(Method::Chap);
-                } else if is_pap(body) && wish.want_pap {
-                    self.method = Some(Method::Pap);
-                }
-            }
-            17 => self.take_mrru(wish, body),
-            _ => {}
+        if kind == 1 && fits_mru(wish, body) {
+            self.mru = number2(body);
         }
-    }
-
-    fn take_mru(&mut self, wish: &LcpWish, body: &[u8])
-        ensures { self.new ≡ nak_mru wish.now self.old body.now }
-    {
-        if body.len() == 2 {
-            let number = number2(body);
-            if LEAST_MRU <= number && number <= wish.mru {
-                self.mru = number;
-            }
+        if kind == 2 && body.len() == 4 {
+            self.map = self.map | number4(body);
         }
-    }
-
-    fn take_mrru(&mut self, wish: &LcpWish, body: &[u8])
-        ensures { self.new ≡ nak_mrru wish.now self.old body.now }
-    {
-        if body.len() == 2 {
-            let number = number2(body);
-            if LEAST_MRRU <= number && number <= wish.mrru {
-                self.mrru = number;
-            }
+        if kind == 3 {
+            self.method = allowed_method(wish, body, self.method);
+        }
+        if kind == 17 && fits_mrru(wish, body) {
+            self.mrru = number2(body);
         }
     }
 
     /// A Nak of our last request.
-    #[tactic(auto, unfolding(crate::specs::Ours::after_nak))]
+    #[tactic(auto, unfolding(crate::specs::Taking::after_nak))]
     pub fn take_nak(&mut self, wish: &LcpWish, items: &OptionList)
         ensures { self.new ≡ after_nak wish.now self.old items.now }
     {
-        let mut walk = items.iter();
-        let mut is_magic = false;
-        'taking: while let Some(seen) = walk.next() {
-            is_magic = is_magic || (seen.kind == 5 && seen.body.len() == 4);
-            self.take_named(wish, seen.kind, seen.body);
-        }
-        if is_magic && wish.magic && !self.left_out.magic {
+        let redraws = wish.magic && !self.left_out.magic;
+        let is_magic = has_magic(items);
+        self.take_items(wish, items);
+        if is_magic && redraws {
             self.draw();
         }
     }
 
-    fn leave_out(&mut self, kind: u8)
-        ensures { self.new ≡ rejected_kind self.old kind }
+    fn take_items(&mut self, wish: &LcpWish, items: &OptionList)
+        ensures { self.new ≡ nak_items wish.now self.old items.now }
     {
-        match kind {
-            1 => self.left_out.mru = true,
-            2 => self.left_out.map = true,
-            3 => self.left_out.method = true,
-            5 => {
-                self.left_out.magic = true;
-                self.magic = 0;
-            }
-            7 => self.left_out.pfc = true,
-            8 => self.left_out.acfc = true,
-            17 => self.left_out.mrru = true,
-            19 => self.left_out.disc = true,
-            _ => {}
+        let mut walk = items.iter();
+        'taking: while let Some(seen) = walk.next() {
+            self.take_named(wish, seen.kind, seen.body);
         }
     }
 
@@ -265,9 +260,20 @@ impl Ours {
     pub fn take_reject(&mut self, items: &OptionList)
         ensures { self.new ≡ after_reject self.old items.now }
     {
-        let mut walk = items.iter();
-        'leaving: while let Some(seen) = walk.next() {
-            self.leave_out(seen.kind);
+        let out = self.left_out;
+        let is_magic = names_kind(items, 5);
+        self.left_out = LeftOut {
+            mru: names_kind(items, 1) || out.mru,
+            map: names_kind(items, 2) || out.map,
+            method: names_kind(items, 3) || out.method,
+            magic: is_magic || out.magic,
+            pfc: names_kind(items, 7) || out.pfc,
+            acfc: names_kind(items, 8) || out.acfc,
+            mrru: names_kind(items, 17) || out.mrru,
+            disc: names_kind(items, 19) || out.disc,
+        };
+        if is_magic {
+            self.magic = 0;
         }
     }
 }

@@ -1,13 +1,15 @@
-ghost use Rattle.std.specs.Prelude.{◌≡◌};
-ghost use Rattle.ppp_lcp.specs.Out.{out_of, no_event};
+ghost use Rattle.std.specs.Prelude.{◌≡◌, []};
+ghost use Rattle.ppp_lcp.specs.Out.{no_event};
 
 use arrayvec::ArrayVec;
 use ppp_control::{Packets, StepOut};
-use ppp_fsm::Acts;
+use ppp_fsm::{Acts, FsmEvent};
 
 /// What a call of LCP does and tells.
 #[derive(Drop)]
 pub struct LcpOut {
+    /// The event that the call was, if it was one.
+    pub event: Option<FsmEvent>,
     /// The acts of the automaton, in order.
     pub acts: Acts,
     /// What is sent, in order: at most three packets.
@@ -24,9 +26,10 @@ pub struct LcpOut {
 
 impl LcpOut {
     pub(crate) fn of(step: StepOut, loops: u8) -> LcpOut
-        ensures { result ≡ out_of step.acts step.packets loops }
+        ensures { result ≡ record (no_event step.packets loops) { event = step.event; acts = step.acts } }
     {
         LcpOut {
+            event: step.event,
             acts: step.acts,
             packets: step.packets,
             loops,
@@ -38,9 +41,10 @@ impl LcpOut {
 
     // No event happens.
     pub(crate) fn none(loops: u8) -> LcpOut
-        ensures { result ≡ no_event loops }
+        ensures { result ≡ no_event [] loops }
     {
         LcpOut {
+            event: None,
             acts: Acts::from(ArrayVec::new()),
             packets: Packets::new(),
             loops,

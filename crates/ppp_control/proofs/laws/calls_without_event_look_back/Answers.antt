@@ -1,9 +1,9 @@
 -- Nothing but the identifiers changes.
-use Rattle.ppp_control.proofs.TimingLemmas.{quiet_back, numbered_back}
+use Rattle.ppp_control.proofs.RulesLemmas.{quiet_so, numbered_so}
 use Rattle.ppp_control.proofs.laws.calls_without_event_look_back.Goals as goal
 
 pub returns-clause-nothing : goal.returns-clause-nothing
-returns-clause-nothing c = quiet_back
+returns-clause-nothing c = λ start r past n now call. quiet_so r past n now call
 
 pub returns-clause-numbered : goal.returns-clause-numbered
-returns-clause-numbered c = λ limits ms now id is_echo body past. numbered_back limits ms now is_echo id body past
+returns-clause-numbered c = λ start r past n now call is_echo body. numbered_so r past n now call is_echo body

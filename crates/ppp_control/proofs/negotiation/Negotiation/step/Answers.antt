@@ -17,10 +17,10 @@ push_some-requires c = omega (arith, c.acting.invariant.few, c.acting.invariant.
 
 pub returns-clause-new : goal.returns-clause-new
 returns-clause-new c =
-    let ends = acted_leaves (given c.args.occasion.now) c.args.event c.args.self.now _ _ _ c.acting.self c.acting.packets c.acting.act-index (ap (λ x. record c.args.self.now { fsm = x }) c.apply-acts.ensures.after) c.as_slice-list.ensures c.apply-acts.ensures.acts c.acting-test.false c.acting.invariant in
+    let ends = acted_leaves (given c.args.parts.now) c.args.event c.args.self.now _ _ _ c.acting.self c.acting.packets c.acting.act-index (ap (λ x. record c.args.self.now { fsm = x }) c.apply-acts.ensures.after) c.as_slice-list.ensures c.apply-acts.ensures.acts c.acting-test.false c.acting.invariant in
     c.stop_timer.ensures ∙ ends.0
 
 pub returns-clause-packets : goal.returns-clause-packets
 returns-clause-packets c =
-    let ends = acted_leaves (given c.args.occasion.now) c.args.event c.args.self.now _ _ _ c.acting.self c.acting.packets c.acting.act-index (ap (λ x. record c.args.self.now { fsm = x }) c.apply-acts.ensures.after) c.as_slice-list.ensures c.apply-acts.ensures.acts c.acting-test.false c.acting.invariant in
+    let ends = acted_leaves (given c.args.parts.now) c.args.event c.args.self.now _ _ _ c.acting.self c.acting.packets c.acting.act-index (ap (λ x. record c.args.self.now { fsm = x }) c.apply-acts.ensures.after) c.as_slice-list.ensures c.apply-acts.ensures.acts c.acting-test.false c.acting.invariant in
     ends.1
