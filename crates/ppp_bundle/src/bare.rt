@@ -129,7 +129,7 @@ impl<S: Spawner> Bare<S> {
         ensures spawner { IfSome result (λ job. self.old.scripts.machine.spawner ≡ Some job.spawner) }
         ensures log { self.new.scripts.log ≡ self.old.scripts.log }
         ensures automaton { self.new.automaton ≡ self.old.automaton }
-        ensures taken { OnSome result (self.new.scripts.machine.spawner ≡ None) }
+        ensures taken { OnSome result (self.new ≡ record self.old { scripts = record self.old.scripts { machine = record self.old.scripts.machine { spawner = None } } }) }
         ensures none { IfNone result (self.new ≡ self.old) }
         ensures bare { IsBare (self.new.automaton.state == 9) self.new.scripts }
     {

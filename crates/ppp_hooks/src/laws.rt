@@ -1,10 +1,16 @@
 // Laws of the definitions that the contracts cite.
-ghost use Rattle.std.specs.Prelude.{◌≡◌, ◌↔◌, ℕ, [], ◌∷◌, ◌++◌, List, true, false, is_some, reverse};
+ghost use Rattle.std.specs.Prelude.{◌≡◌, ◌≤◌, ◌↔◌, ℕ, [], ◌∷◌, ◌++◌, List, true, false, is_some, reverse};
+ghost use Rattle.ppp_base.specs.declared.hook_target.HookTarget.{HookTarget};
+ghost use Rattle.ppp_outside.specs.declared.hook_words.HookArgs.{HookArgs};
 ghost use Rattle.ppp_outside.specs.declared.spawner.ScriptEnd.TheVariants.{Exit};
 ghost use Rattle.ppp_hooks.specs.HookCall.{HookCall, Opens, Closes, TakesJob, Ends, AreAllowed, marks_of};
+ghost use Rattle.ppp_hooks.specs.HookFacts.{HasArgs, StandsFor};
+ghost use Rattle.ppp_hooks.specs.declared.facts.HookFacts.{HookFacts};
+ghost use Rattle.ppp_hooks.specs.HookRuns.{ran_in};
+ghost use Rattle.ppp_hooks.specs.HookWords.{words_in};
 ghost use Rattle.ppp_hooks.specs.HookLaw.{HookLaw};
 ghost use Rattle.ppp_hooks.specs.HookMark.{HookMark, Opened, Closed, Started, Ended};
-ghost use Rattle.ppp_hooks.specs.HookPast.{IsLawful, IsSettled, MayFollow, open_in};
+ghost use Rattle.ppp_hooks.specs.HookPast.{IsLawful, IsSettled, MayFollow, greatest_in, open_in};
 ghost use Rattle.ppp_hooks.specs.HookPlace.{AreStarts, MayStand};
 ghost use Rattle.ppp_hooks.specs.HookRule.{due_after};
 ghost use Rattle.ppp_hooks.specs.Settled.{Settled};
@@ -52,4 +58,15 @@ pub fn no_other_choice()
     ensures keeps { (past : List HookMark) (mark : HookMark) → IsLawful past → MayFollow past mark
         → HookLaw 0 (reverse (due_after (mark ∷ past) ++ mark ∷ past))
         × Settled (reverse (due_after (mark ∷ past) ++ mark ∷ past)) (is_some (open_in (mark ∷ past))) }
+{}
+
+/// What is given to the openings as arguments counts for the openings so far alone: whoever gives other arguments to
+/// later ones says the same of these.
+pub fn given_so_far()
+    ensures args { (given other : ℕ → HookArgs) (facts : HookFacts) (past : List HookMark) → StandsFor facts past
+        → ((n : ℕ) → n ≤ greatest_in past → given n ≡ other n) → HasArgs given facts → HasArgs other facts }
+    ensures words { (target : HookTarget) (given other : ℕ → HookArgs) (past : List HookMark) → IsLawful past
+        → ((n : ℕ) → n ≤ greatest_in past → given n ≡ other n) → words_in target given past ≡ words_in target other past }
+    ensures ran { (target : HookTarget) (given other : ℕ → HookArgs) (past : List HookMark) → IsLawful past
+        → ((n : ℕ) → n ≤ greatest_in past → given n ≡ other n) → ran_in target given past ≡ ran_in target other past }
 {}

@@ -1,5 +1,5 @@
 -- A machine goes on standing for what its log says.
-use Rattle.std.proofs.Common.{◌≡◌, ℕ, ◌+◌, ◌<◌, ◌≤◌, inl, inr, Bool, true, false, Option, None, Some, List, [], ◌∷◌, ◌++◌, length, refl, ap, sym, ◌∙◌, subst, arith}
+use Rattle.std.proofs.Common.{◌≡◌, ℕ, ◌+◌, ◌<◌, ◌≤◌, ◌⊎◌, inl, inr, zero, suc, Bool, true, false, Option, None, Some, List, [], ◌∷◌, ◌++◌, length, refl, ap, sym, ◌∙◌, subst, arith}
 use Rattle.std.specs.Prelude.{◌==◌, ◌↔◌, IsNone, ◌||◌, if◌then◌else◌}
 use Rattle.std.proofs.lemmas.Bool.Decides.{nat_tests}
 use Rattle.ppp_base.specs.declared.hook_target.HookTarget.{HookTarget}
@@ -18,8 +18,10 @@ use Rattle.ppp_hooks.specs.HookState.{HookState, DoneState}
 use Rattle.ppp_hooks.proofs.Places.{law_of_past, settled_of_past}
 use Rattle.ppp_mark.specs.declared.kind.TheConstants.{START, ENDED}
 use Rattle.ppp_mark.specs.declared.mark.Mark.{Mark}
-use Rattle.ppp_mark.specs.Log.{LogState}
-use Rattle.ppp_mark.specs.Marks.{ended_mark}
+use Rattle.ppp_mark.specs.declared.script_log.TheConstants.{MOST_LIMIT}
+use Rattle.ppp_mark.specs.Log.{AreOf, LogState}
+use Rattle.ppp_mark.specs.Table.{IsInRow, IsInTable, row_of, stands_in}
+use Rattle.ppp_mark.specs.Marks.{ended_mark, mark}
 use Rattle.ppp_mark.specs.ScriptLog.{Grows, IsKept, IsRunningJob, KeepsLaw, closed_mark, opened_mark, with_due_mark}
 use Rattle.ppp_mark.specs.Scripts.{AreUpOrDown, KeepsRunning, is_open_kind, is_closed_kind, due_marks, marks_at, said_in, said_with, says_scripts}
 
@@ -44,14 +46,21 @@ said-starts time (Ended answer job ∷ starts) past a = absurd a
 pub said-due : (time : ℕ) (past : List Mark) → said_in (due_marks time past ++ past) ≡ with_due (said_in past)
 said-due time past = said-starts time (due_after (said_in past)) past (due-starts (said_in past))
 
--- and each is an up or a down
-directions-starts : (time : ℕ) (starts : List HookMark) (past : List Mark) → AreUpOrDown past → AreUpOrDown (marks_at time starts ++ past)
-directions-starts time [] past a = a
-directions-starts time (Opened n ∷ starts) past a = directions-starts time starts past a
-directions-starts time (Closed n ∷ starts) past a = directions-starts time starts past a
-directions-starts time (Started true n ∷ starts) past a = (λ _. inl refl, directions-starts time starts past a)
-directions-starts time (Started false n ∷ starts) past a = (λ _. inr refl, directions-starts time starts past a)
-directions-starts time (Ended answer job ∷ starts) past a = directions-starts time starts past a
+one-or-two : (x : ℕ) → 1 ≤ x → x ≤ 2 → (x ≡ 1) ⊎ (x ≡ 2)
+one-or-two zero a b = absurd (omega (arith, a))
+one-or-two (suc zero) a b = inl refl
+one-or-two (suc (suc zero)) a b = inr refl
+one-or-two (suc (suc (suc x))) a b = absurd (omega (arith, b))
+
+-- a start's x is 1 or 2
+up-or-down : (kind x y z : ℕ) (time : ℕ) → IsInTable (mark time kind x y z) → kind ≡ START → (x ≡ 1) ⊎ (x ≡ 2)
+up-or-down kind x y z time h e =
+    let row : IsInRow (row_of START) (mark time START x y z) = subst (λ k. IsInRow (row_of k) (mark time k x y z)) e h.in_row in
+    one-or-two x row.0 row.1
+
+pub directions_of : (target : HookTarget) (past : List Mark) → AreOf target past → AreUpOrDown past
+directions_of target [] a = tt
+directions_of target (m ∷ past) a = (λ e. up-or-down m.kind m.x m.y m.z m.time a.1 e, directions_of target past a.2)
 
 longer-starts : (time : ℕ) (starts : List HookMark) (past : List Mark) → length past ≤ length (marks_at time starts ++ past)
 longer-starts time [] past = omega arith
@@ -100,34 +109,30 @@ said-ended time (Exit status) job hooks = refl
 said-ended time Killed job hooks = refl
 said-ended time NotStarted job hooks = refl
 
-pub opened-no-start : (target : HookTarget) (time n : ℕ) → (opened_mark target time n).kind ≡ START → ⊥
-opened-no-start (Link l) time n e = absurd (cc e)
-opened-no-start (OfUnit u) time n e = absurd (cc e)
-
-pub closed-no-start : (target : HookTarget) (time n : ℕ) → (closed_mark target time n).kind ≡ START → ⊥
-closed-no-start (Link l) time n e = absurd (cc e)
-closed-no-start (OfUnit u) time n e = absurd (cc e)
-
-pub ended-no-start : (time : ℕ) (answer : ScriptEnd) (job : ℕ) → (ended_mark time answer job).kind ≡ START → ⊥
-ended-no-start time answer job e = absurd (cc e)
+-- starts and ends stand in both kinds of logs
+pub ended-owner : (target : HookTarget) → stands_in target ENDED ≡ true
+ended-owner (Link l) = refl
+ended-owner (OfUnit u) = refl
 
 -- after a mark that tells of h, and the mark of what is due then, where the machine settled these facts
-pub kept_on : {S : Type 0} (old new : HookState S) (log : LogState) (time : ℕ) (m : Mark) (h : HookMark) (f : HookFacts)
-    → IsKept old log → said_with m (said_in log.past) ≡ h ∷ said_in log.past → (m.kind ≡ START → ⊥)
+pub kept_on : {S : Type 0} (new : HookState S) (target : HookTarget) (log after : LogState) (time : ℕ) (m : Mark) (h : HookMark) (f : HookFacts)
+    → after ≡ with_due_mark time m log → new.target ≡ target → AreOf target after.past → log.limit ≤ MOST_LIMIT
+    → said_with m (said_in log.past) ≡ h ∷ said_in log.past
     → new.facts ≡ settled f → StandsFor new.facts (with_due (h ∷ said_in log.past))
-    → f.greatest ≤ length log.past + 1 → f.starts ≤ length log.past → IsKept new (with_due_mark time m log)
-kept_on old new log time m h f kept told quiet is stands few_openings few_starts =
+    → f.greatest ≤ length log.past + 1 → f.starts ≤ length log.past → IsKept new after
+kept_on new target log after time m h f is_after same_target of_table small told is stands few_openings few_starts =
     let same = settled_same f in
     let greatest : new.facts.greatest ≡ f.greatest = ap (λ (x : HookFacts). x.greatest) is ∙ same.greatest in
     let starts : new.facts.starts ≡ (settled f).starts = ap (λ (x : HookFacts). x.starts) is in
     let most : (settled f).starts ≤ f.starts + 1 = same.starts in
     let long : length log.past + 1 ≤ length (due_marks time (m ∷ log.past) ++ m ∷ log.past) = omega (arith, more-due time (m ∷ log.past)) in
+    let longer : length after.past ≡ length (due_marks time (m ∷ log.past) ++ m ∷ log.past) = ap (λ (l : LogState). length l.past) is_after in
     record {
-      stands = subst (λ hooks. StandsFor new.facts hooks) (sym (said-due time (m ∷ log.past) ∙ ap with_due told)) stands;
-      directions = directions-starts time (due_after (said_in (m ∷ log.past))) (m ∷ log.past) (λ e. absurd (quiet e), kept.directions);
-      greatest = omega (arith, greatest, few_openings, long);
-      starts = omega (arith, starts, most, few_starts, long);
-      small = kept.small;
+      stands = subst (λ hooks. StandsFor new.facts hooks) (sym (ap (λ (l : LogState). said_in l.past) is_after ∙ said-due time (m ∷ log.past) ∙ ap with_due told)) stands;
+      of_table = subst (λ t. AreOf t after.past) (sym same_target) of_table;
+      greatest = omega (arith, greatest, few_openings, long, longer);
+      starts = omega (arith, starts, most, few_starts, long, longer);
+      small = subst (λ (l : LogState). l.limit ≤ MOST_LIMIT) (sym is_after) small;
     }
 
 -- what was added is the mark, and that of what is due
@@ -147,14 +152,11 @@ if_all false false false false p q r s t e = refl
 pub said-quiet : (m : Mark) (past : List Mark) → says_scripts m.kind ≡ false → said_in (m ∷ past) ≡ said_in past
 said-quiet m past quiet = if_all (is_open_kind m.kind) (is_closed_kind m.kind) (m.kind == START) (m.kind == ENDED) _ _ _ _ _ quiet
 
-quiet-no-start : (m : Mark) → says_scripts m.kind ≡ false → m.kind ≡ START → ⊥
-quiet-no-start m quiet e = let same : says_scripts START ≡ false = ap says_scripts (sym e) ∙ quiet in absurd (cc same)
-
-pub kept_put : {S : Type 0} (machine : HookState S) (log : LogState) (m : Mark) → IsKept machine log → says_scripts m.kind ≡ false
+pub kept_put : {S : Type 0} (machine : HookState S) (log : LogState) (m : Mark) → IsKept machine log → says_scripts m.kind ≡ false → stands_in machine.target m.kind ≡ true → IsInTable m
     → IsKept machine (record log { past = m ∷ log.past })
-kept_put machine log m kept quiet = record {
+kept_put machine log m kept quiet owner in_table = record {
   stands = subst (λ hooks. StandsFor machine.facts hooks) (sym (said-quiet m log.past quiet)) kept.stands;
-  directions = (λ e. absurd (quiet-no-start m quiet e), kept.directions);
+  of_table = (owner, in_table, kept.of_table);
   greatest = omega (arith, kept.greatest);
   starts = omega (arith, kept.starts);
   small = kept.small;
@@ -163,7 +165,7 @@ kept_put machine log m kept quiet = record {
 -- the law of scripts, of the log
 pub keeps_law : {S : Type 0} (machine : HookState S) (log : LogState) → IsKept machine log → KeepsLaw log.past
 keeps_law machine log kept = record {
-  law = record { directions = kept.directions; law = law_of_past (said_in log.past) kept.stands.keeps.lawful };
+  law = record { directions = directions_of machine.target log.past kept.of_table; law = law_of_past (said_in log.past) kept.stands.keeps.lawful };
   settled = settled_of_past (said_in log.past) kept.stands.settled;
 }
 

@@ -1,7 +1,8 @@
 -- What contracts see of a log.
 use Rattle.std.specs.Prelude.{ℕ, ◌-◌, ◌≡◌, true, List, [], ◌∷◌, ⊤, length, reverse}
+use Rattle.ppp_base.specs.declared.hook_target.HookTarget.{HookTarget}
 use Rattle.ppp_mark.specs.declared.mark.Mark.{Mark}
-use Rattle.ppp_mark.specs.Table.{is_kind}
+use Rattle.ppp_mark.specs.Table.{IsInTable, is_kind, stands_in}
 
 -- its marks, the newest first, and how many it may have
 pub record LogState : Type 0 where
@@ -28,3 +29,8 @@ added mark log = record log { past = mark ∷ log.past }
 abbrev pub AreMarks : List Mark → Type 0
 AreMarks [] = ⊤
 AreMarks (mark ∷ past) = (is_kind mark.kind ≡ true) × AreMarks past
+
+-- Each is of a kind that stands in such an object's log, with the numbers that the table gives it.
+abbrev pub AreOf : HookTarget → List Mark → Type 0
+AreOf target [] = ⊤
+AreOf target (mark ∷ past) = (stands_in target mark.kind ≡ true) × IsInTable mark × AreOf target past

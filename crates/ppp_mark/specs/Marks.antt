@@ -1,6 +1,7 @@
 -- A mark of each kind, with the numbers that the table gives it. Each is made at a time, in milliseconds.
 use Rattle.std.specs.Prelude.{ℕ, ◌+◌, ◌*◌, Bool, List, [], ◌∷◌, if◌then◌else◌}
 use Rattle.ppp_base.specs.declared.posts.CloseCause.{CloseCause}
+use Rattle.ppp_base.specs.declared.posts.CloseCause.TheVariants.{Idle, ConnectTime, IpcpFailed, EndedByPeer, TooManyChanges}
 use Rattle.ppp_base.specs.declared.posts.Refusal.{Refusal}
 use Rattle.ppp_base.specs.declared.signal_word.SignalWord.{SignalWord}
 use Rattle.ppp_base.specs.declared.signal_word.SignalWord.TheVariants.{Hup, Int, Term, Usr1, Usr2}
@@ -120,8 +121,24 @@ remote_mark time address = mark time REMOTE 0 0 (address_number address)
 abbrev pub ip_closed_mark : ℕ → ℕ → Mark
 ip_closed_mark time opening = mark time IP_CLOSED 0 0 opening
 
-abbrev pub close_mark : ℕ → CloseCause → ℕ → ℕ → Mark
-close_mark time cause detail elapsed = mark time CLOSE (cause_number cause) detail elapsed
+-- what belongs to the cause of a close: 1 where the peer has ended it by IPCP
+abbrev pub close_detail : CloseCause → ℕ
+close_detail Idle = 0
+close_detail ConnectTime = 0
+close_detail IpcpFailed = 0
+close_detail EndedByPeer = 1
+close_detail TooManyChanges = 0
+
+-- The time that passed is told of the two causes that are about it.
+abbrev pub close_elapsed : CloseCause → ℕ → ℕ
+close_elapsed Idle elapsed = elapsed
+close_elapsed ConnectTime elapsed = elapsed
+close_elapsed IpcpFailed elapsed = 0
+close_elapsed EndedByPeer elapsed = 0
+close_elapsed TooManyChanges elapsed = 0
+
+abbrev pub close_mark : ℕ → CloseCause → ℕ → Mark
+close_mark time cause elapsed = mark time CLOSE (cause_number cause) (close_detail cause) (close_elapsed cause elapsed)
 
 abbrev pub unmade_mark : ℕ → ℕ → Mark
 unmade_mark time bundle = mark time UNMADE 0 0 bundle

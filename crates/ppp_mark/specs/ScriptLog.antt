@@ -1,25 +1,27 @@
 -- A machine of site scripts together with a log. What the machine does the log has, and the log has other marks too.
-use Rattle.std.specs.Prelude.{ℕ, ◌+◌, ◌≤◌, ◌≡◌, Option, None, Some, List, ◌∷◌, ◌++◌, is_some, length}
+use Rattle.std.specs.Prelude.{ℕ, ◌+◌, ◌≤◌, ◌≡◌, Option, None, Some, List, ◌∷◌, ◌++◌, is_some, length, if◌then◌else◌}
 use Rattle.ppp_base.specs.declared.hook_target.HookTarget.{HookTarget}
 use Rattle.ppp_base.specs.declared.hook_target.HookTarget.TheVariants.{Link, Unit as OfUnit}
+use Rattle.ppp_outside.specs.declared.hook_words.HookArgs.{HookArgs}
 use Rattle.ppp_outside.specs.declared.spawner.ScriptEnd.{ScriptEnd}
-use Rattle.ppp_hooks.specs.HookFacts.{StandsFor}
+use Rattle.ppp_hooks.specs.HookFacts.{StandsFor, settled, with_closed}
+use Rattle.ppp_hooks.specs.declared.facts.HookFacts.{HookFacts}
 use Rattle.ppp_hooks.specs.HookPast.{open_in, greatest_in, starts_in, ends_in, not_started_in}
 use Rattle.ppp_hooks.specs.HookState.{HookState, DoneState}
 use Rattle.ppp_mark.specs.declared.mark.Mark.{Mark}
 use Rattle.ppp_mark.specs.declared.script_log.TheConstants.{MOST_LIMIT}
-use Rattle.ppp_mark.specs.Log.{LogState}
-use Rattle.ppp_mark.specs.Marks.{auth_open_mark, auth_closed_mark, ip_open_mark, ip_closed_mark, ended_mark}
-use Rattle.ppp_mark.specs.Scripts.{AreUpOrDown, LogLaw, LogSettled, due_marks, said_in}
+use Rattle.ppp_mark.specs.Log.{AreOf, LogState, added}
+use Rattle.ppp_mark.specs.Marks.{auth_open_mark, auth_closed_mark, ip_open_mark, ip_closed_mark, ended_mark, local_mark, remote_mark}
+use Rattle.ppp_mark.specs.Scripts.{LogLaw, LogSettled, due_marks, said_in}
 
 pub record ScriptLogState (S : Type 0) : Type 0 where
   pub machine : HookState S
   pub log : LogState
 
--- The machine stands for what the log says, and the counts are small.
+-- The machine stands for what the log says, whose marks are of its object's kinds and in the table's ranges, and the counts are small.
 pub record IsKept {S : Type 0} (machine : HookState S) (log : LogState) : Type 0 where
   pub stands : StandsFor machine.facts (said_in log.past)
-  pub directions : AreUpOrDown log.past
+  pub of_table : AreOf machine.target log.past
   pub greatest : machine.facts.greatest ≤ length log.past
   pub starts : machine.facts.starts ≤ length log.past
   pub small : log.limit ≤ MOST_LIMIT
@@ -42,6 +44,10 @@ closed_mark (OfUnit unit) time n = ip_closed_mark time n
 abbrev pub with_due_mark : ℕ → Mark → LogState → LogState
 with_due_mark time mark log = record log { past = due_marks time (mark ∷ log.past) ++ mark ∷ log.past }
 
+-- the marks of both addresses behind what an opening has added
+abbrev pub with_addresses : ℕ → HookArgs → LogState → LogState
+with_addresses time args log = added (remote_mark time args.remote) (added (local_mark time args.local) log)
+
 -- the number of the next opening
 abbrev pub next_opening : LogState → ℕ
 next_opening log = greatest_in (said_in log.past) + 1
@@ -57,6 +63,10 @@ log_closed_at target time (Some n) log = with_due_mark time (closed_mark target 
 
 abbrev pub log_closed : HookTarget → ℕ → LogState → LogState
 log_closed target time log = log_closed_at target time (open_in (said_in log.past)) log
+
+-- the machine's facts then
+abbrev pub closed_facts : HookFacts → HookFacts
+closed_facts facts = if is_some facts.now_open then settled (with_closed facts) else facts
 
 -- the running job has ended
 abbrev pub log_ended : ℕ → ScriptEnd → LogState → LogState

@@ -1,11 +1,12 @@
 -- What the marks of a log say of site scripts (pppd(8), "Scripts"). Here the newest mark comes first.
 -- It is the one reading of kinds: a link's scripts go by what its peer has proved, a unit's by IP.
-use Rattle.std.specs.Prelude.{ℕ, ◌==◌, ◌<◌, ◌≡◌, ◌||◌, ◌⊎◌, Bool, List, [], ◌∷◌, ⊤, reverse, if◌then◌else◌}
+use Rattle.std.specs.Prelude.{ℕ, ◌==◌, ◌<◌, ◌≡◌, ◌||◌, ◌⊎◌, Bool, true, false, List, [], ◌∷◌, ⊤, reverse, if◌then◌else◌}
 use Rattle.ppp_outside.specs.declared.spawner.ScriptEnd.{ScriptEnd}
 use Rattle.ppp_outside.specs.declared.spawner.ScriptEnd.TheVariants.{Exit, Killed, NotStarted}
 use Rattle.ppp_hooks.specs.HookLaw.{HookLaw}
 use Rattle.ppp_hooks.specs.HookMark.{HookMark, Opened, Closed, Started, Ended}
 use Rattle.ppp_hooks.specs.HookPast.{ends_in, not_started_in, starts_in}
+use Rattle.ppp_hooks.specs.HookPlace.{MayStand}
 use Rattle.ppp_hooks.specs.HookRule.{due_after}
 use Rattle.ppp_hooks.specs.Settled.{Settled}
 use Rattle.ppp_mark.specs.declared.mark.Mark.{Mark}
@@ -48,6 +49,11 @@ AreUpOrDown (m ∷ past) = (m.kind ≡ START → (m.x ≡ 1) ⊎ (m.x ≡ 2)) ×
 pub record LogLaw (b : ℕ) (past : List Mark) : Type 0 where
   pub directions : AreUpOrDown past
   pub law : HookLaw b (reverse (said_in past))
+
+-- Whether one more mark may stand behind what was said, by the law alone. A start that is neither up nor down may stand nowhere.
+pub record MayStandMark (b : ℕ) (past : List HookMark) (m : Mark) : Type 0 where
+  pub start : m.kind ≡ START → ((m.x ≡ 1) × MayStand b past (Started true m.z)) ⊎ ((m.x ≡ 2) × MayStand b past (Started false m.z))
+  pub ended : m.kind ≡ ENDED → MayStand b past (Ended (answer_of m.x m.y) m.z)
 
 -- While no script runs they agree with the protocol, which is open or not as said.
 abbrev pub LogSettled : List Mark → Bool → Type 0

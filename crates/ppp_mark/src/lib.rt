@@ -5,12 +5,16 @@
 #![tactic(auto)]
 
 pub mod kind;
+pub mod laws;
 mod log;
 mod mark;
+mod name;
+mod report;
 mod script_log;
 #[cfg(test)]
 mod tests;
 
 pub use log::Log;
 pub use mark::Mark;
+pub use report::{LogName, NamedLog, ReportEnd, end_into, section_into};
 pub use script_log::{MOST_LIMIT, ScriptLog};

@@ -72,7 +72,7 @@ impl Log {
     /// Its marks, the oldest first.
     pub fn marks(&self) -> &[Mark]
         ensures value { result.now ≡ marks_of self.now }
-        ensures kinds { AreMarks self.now.past }
+        ensures kinds { AreMarks (marks_of self.now) }
     {
         &self.marks
     }

@@ -249,12 +249,20 @@ impl Mark {
         made(time, kind::IP_CLOSED, 0, 0, opening)
     }
 
-    /// Why the bundle closes, what belongs to the cause, and for the causes 12 and 13 the time that passed, in milliseconds.
-    pub fn close(time: u64, cause: CloseCause, detail: u16, elapsed: u32) -> Mark
-        ensures value { result ≡ close_mark time cause detail elapsed }
+    /// Why the bundle closes, and for the causes 12 and 13 the time that passed, in milliseconds.
+    pub fn close(time: u64, cause: CloseCause, elapsed: u32) -> Mark
+        ensures value { result ≡ close_mark time cause elapsed }
         ensures in_table { IsInTable result }
     {
-        made(time, kind::CLOSE, cause.number(), detail, elapsed)
+        match cause {
+            CloseCause::Idle | CloseCause::ConnectTime => {
+                made(time, kind::CLOSE, cause.number(), 0, elapsed)
+            }
+            CloseCause::IpcpFailed | CloseCause::TooManyChanges => {
+                made(time, kind::CLOSE, cause.number(), 0, 0)
+            }
+            CloseCause::EndedByPeer => made(time, kind::CLOSE, cause.number(), 1, 0),
+        }
     }
 
     /// The bundle is unmade.

@@ -6,12 +6,13 @@ ghost use Rattle.ppp_hooks.specs.HookPast.{ends_in, last_in, not_started_in, ope
 ghost use Rattle.ppp_hooks.specs.HookRule.{with_due};
 ghost use Rattle.ppp_hooks.specs.HookRuns.{GivenLast, IsFaithful, MachineTells};
 ghost use Rattle.ppp_hooks.specs.HookState.{JobState};
-ghost use Rattle.ppp_hooks.specs.HookWords.{words_in};
-ghost use Rattle.ppp_mark.specs.Log.{added, no_marks, room_of};
-ghost use Rattle.ppp_mark.specs.Marks.{local_mark, remote_mark};
-ghost use Rattle.ppp_mark.specs.ScriptLog.{Grows, IsKept, IsRunningJob, KeepsLaw, closed_mark, log_closed, log_ended, log_opened, next_opening, opened_mark, with_due_mark};
+ghost use Rattle.ppp_hooks.specs.HookWords.{words_in, words_of_start};
+ghost use Rattle.ppp_base.specs.declared.hook_target.HookTarget.{HookTarget};
+ghost use Rattle.ppp_base.specs.declared.hook_target.HookTarget.TheVariants.{Unit as OfUnit};
+ghost use Rattle.ppp_mark.specs.Log.{AreOf, added, no_marks, room_of};
+ghost use Rattle.ppp_mark.specs.ScriptLog.{Grows, IsKept, IsRunningJob, KeepsLaw, closed_facts, closed_mark, log_closed, log_ended, log_opened, next_opening, opened_mark, with_addresses, with_due_mark};
 ghost use Rattle.ppp_mark.specs.Scripts.{KeepsRunning, marks_at, said_in, says_scripts};
-ghost use Rattle.ppp_mark.specs.Table.{is_kind};
+ghost use Rattle.ppp_mark.specs.Table.{IsInTable, is_kind, stands_in};
 
 use crate::log::Log;
 use crate::mark::Mark;
@@ -46,6 +47,8 @@ impl<S: Spawner> Model for ScriptLog<S> {
 fn mark_open(target: HookTarget, time: u64, opening: u32) -> Mark
     ensures value { result ≡ opened_mark target time opening }
     ensures kind { is_kind result.kind ≡ true }
+    ensures of_target { stands_in target result.kind ≡ true }
+    ensures in_table { IsInTable result }
 {
     match target {
         HookTarget::Link(_) => Mark::auth_open(time, opening),
@@ -57,6 +60,8 @@ fn mark_open(target: HookTarget, time: u64, opening: u32) -> Mark
 fn mark_closed(target: HookTarget, time: u64, opening: u32) -> Mark
     ensures value { result ≡ closed_mark target time opening }
     ensures kind { is_kind result.kind ≡ true }
+    ensures of_target { stands_in target result.kind ≡ true }
+    ensures in_table { IsInTable result }
 {
     match target {
         HookTarget::Link(_) => Mark::auth_closed(time, opening),
@@ -67,7 +72,8 @@ fn mark_closed(target: HookTarget, time: u64, opening: u32) -> Mark
 // Adds the mark of what was started since there were so many starts.
 fn mark_start<S: Spawner>(log: &mut Log, machine: &HookMachine<S>, before: u32, time: u64)
     requires { 0 < room_of log.old }
-    ensures { log.new ≡ record log.old { past = marks_at time (if machine.now.facts.starts == before then [] else start_mark machine.now.facts.last) ++ log.old.past } }
+    ensures of_table { (target : HookTarget) → AreOf target log.old.past → AreOf target log.new.past }
+    ensures log { log.new ≡ record log.old { past = marks_at time (if machine.now.facts.starts == before then [] else start_mark machine.now.facts.last) ++ log.old.past } }
 {
     if machine.starts() == before {
         return;
@@ -169,6 +175,7 @@ impl<S: Spawner> ScriptLog<S> {
         ensures stands { IfOk result (λ s. IsKept s.machine s.log) }
         ensures args { IfOk result (λ s. (given : ℕ → HookArgs) → HasArgs given s.machine.facts) }
         ensures counts { IfOk result (λ s. MachineCounts S.tries S.faults (S.tries spawner) (S.faults spawner) s.machine) }
+        ensures told { IfOk result (λ s. (given : ℕ → HookArgs) → IfSome (S.runs spawner) (λ before. MachineTells S.runs before given [] s.machine)) }
     {
         let log = Log::new(alloc, limit)?;
         Ok(ScriptLog {
@@ -197,12 +204,37 @@ impl<S: Spawner> ScriptLog<S> {
         open_scripts(&mut self.machine, &mut self.log, args, time);
     }
 
+    /// IP opens under the next number, and the marks of its addresses stand behind the start that it led to. The scripts
+    /// are told these arguments. It takes no memory.
+    pub fn opens_with_addresses(&mut self, args: HookArgs, time: u64)
+        requires unit { (unit : ℕ) × (self.old.machine.target ≡ OfUnit unit) }
+        requires room { 4 ≤ room_of self.old.log }
+        requires closed { open_in (said_in self.old.log.past) ≡ None }
+        ensures log { self.new.log ≡ with_addresses time args (log_opened self.old.machine.target time self.old.log) }
+        ensures machine { self.new.machine ≡ record self.old.machine { facts = settled (with_open self.old.machine.facts (next_opening self.old.log) args) } }
+        ensures stands { IsKept self.new.machine self.new.log }
+        ensures grows { Grows 4 self.old.log self.new.log }
+        ensures said { said_in self.new.log.past ≡ with_due (Opened (next_opening self.old.log) ∷ said_in self.old.log.past) }
+        ensures running { KeepsRunning (said_in self.old.log.past) (said_in self.new.log.past) }
+        ensures args { (given : ℕ → HookArgs) → HasArgs given self.old.machine.facts → given (next_opening self.old.log) ≡ args → HasArgs given self.new.machine.facts }
+        ensures told { (before : List Ran) (given : ℕ → HookArgs) → MachineTells S.runs before given (said_in self.old.log.past) self.old.machine
+            → MachineTells S.runs before given (said_in self.new.log.past) self.new.machine }
+        ensures out { (before : List Ran) (given : ℕ → HookArgs) (job : JobState S) → self.old.machine.spawner ≡ None
+            → GivenLast S.runs before given (said_in self.old.log.past) job → GivenLast S.runs before given (said_in self.new.log.past) job }
+        ensures counts { (t f : ℕ) → MachineCounts S.tries S.faults t f self.old.machine → MachineCounts S.tries S.faults t f self.new.machine }
+    {
+        let local = args.local;
+        let remote = args.remote;
+        self.opens(args, time);
+        self.put(Mark::local(time, local));
+        self.put(Mark::remote(time, remote));
+    }
+
     /// The protocol closes, if it is open. It takes no memory.
     pub fn closes(&mut self, time: u64)
         requires room { 2 ≤ room_of self.old.log }
         ensures log { self.new.log ≡ log_closed self.old.machine.target time self.old.log }
-        ensures target { self.new.machine.target ≡ self.old.machine.target }
-        ensures spawner { self.new.machine.spawner ≡ self.old.machine.spawner }
+        ensures machine { self.new.machine ≡ record self.old.machine { facts = closed_facts self.old.machine.facts } }
         ensures stands { IsKept self.new.machine self.new.log }
         ensures grows { Grows 2 self.old.log self.new.log }
         ensures said { (n : ℕ) → open_in (said_in self.old.log.past) ≡ Some n → said_in self.new.log.past ≡ with_due (Closed n ∷ said_in self.old.log.past) }
@@ -227,6 +259,7 @@ impl<S: Spawner> ScriptLog<S> {
             × (job.not_started ≡ not_started_in (said_in self.old.log.past))) }
         ensures words { (given : ℕ → HookArgs) → HasArgs given self.old.machine.facts
             → IfSome result (λ job. words_in self.old.machine.target given (said_in self.old.log.past) ≡ Some job.words) }
+        ensures exact { IfSome result (λ job. words_of_start self.old.machine.target self.old.machine.facts.last ≡ Some job.words) }
         ensures spawner { IfSome result (λ job. self.old.machine.spawner ≡ Some job.spawner) }
         ensures taken { OnSome result (self.new ≡ record self.old { machine = record self.old.machine { spawner = None } }) }
         ensures none { IfNone result (self.new ≡ self.old) }
@@ -263,7 +296,8 @@ impl<S: Spawner> ScriptLog<S> {
     /// Adds a mark that says nothing of scripts. It takes no memory.
     pub fn put(&mut self, mark: Mark)
         requires room { 0 < room_of self.old.log }
-        requires kind { is_kind mark.kind ≡ true }
+        requires owner { stands_in self.old.machine.target mark.kind ≡ true }
+        requires in_table { IsInTable mark }
         requires other { says_scripts mark.kind ≡ false }
         ensures log { self.new.log ≡ added mark self.old.log }
         ensures machine { self.new.machine ≡ self.old.machine }
@@ -271,19 +305,6 @@ impl<S: Spawner> ScriptLog<S> {
         ensures stands { IsKept self.new.machine self.new.log }
     {
         self.log.add(mark);
-    }
-
-    /// Adds the marks of the two addresses of the opening that has just begun. They stand behind the start that it led
-    /// to. It takes no memory.
-    pub fn put_addresses(&mut self, local: [u8; 4], remote: [u8; 4], time: u64)
-        requires room { 2 ≤ room_of self.old.log }
-        ensures log { self.new.log ≡ added (remote_mark time remote) (added (local_mark time local) self.old.log) }
-        ensures machine { self.new.machine ≡ self.old.machine }
-        ensures said { said_in self.new.log.past ≡ said_in self.old.log.past }
-        ensures stands { IsKept self.new.machine self.new.log }
-    {
-        self.put(Mark::local(time, local));
-        self.put(Mark::remote(time, remote));
     }
 
     /// What happened.

@@ -1,3 +1,6 @@
+ghost use Rattle.std.specs.Prelude.{◌≡◌};
+ghost use Rattle.ppp_base.specs.declared.hook_target.HookTarget.TheVariants.{Unit as OfUnit};
+
 use crate::{Log, Mark, ScriptLog};
 use ppp_base::{HookTarget, LinkId, Name, Unit};
 use ppp_outside::{HookArgs, ReplaySpawner};
@@ -15,17 +18,21 @@ fn args() -> HookArgs {
 }
 
 // The protocol opens, and its addresses are put. False where it may not.
-fn open(scripts: &mut ScriptLog<ReplaySpawner>) -> bool {
+fn open(scripts: &mut ScriptLog<ReplaySpawner>) -> bool
+    requires { scripts.old.machine.target ≡ OfUnit 0 }
+    ensures { scripts.new.machine.target ≡ OfUnit 0 }
+{
     if scripts.room() < 4 || scripts.now_open().is_some() {
         return false;
     }
-    scripts.opens(args(), 5);
-    scripts.put_addresses([10, 0, 0, 1], [10, 0, 0, 2], 6);
+    scripts.opens_with_addresses(args(), 5);
     true
 }
 
 // The protocol closes, and the script that runs ends. False where none runs.
-fn close(scripts: &mut ScriptLog<ReplaySpawner>) -> bool {
+fn close(scripts: &mut ScriptLog<ReplaySpawner>) -> bool
+    ensures { scripts.new.machine.target ≡ scripts.old.machine.target }
+{
     if scripts.room() < 4 {
         return false;
     }
@@ -47,7 +54,7 @@ fn scripts_of_a_unit(rt: HostRuntime) -> Result<(), Fail> {
     assert_eq!(rt; scripts.running(), Some(2));
     let kinds = scripts.log().marks().iter().map(|mark| mark.kind);
     assert!(rt; kinds.eq([35, 7, 36, 37, 38, 8, 7]));
-    assert_eq!(rt; scripts.log().get(2), Some(Mark::local(6, [10, 0, 0, 1])));
+    assert_eq!(rt; scripts.log().get(2), Some(Mark::local(5, [10, 0, 0, 1])));
     assert_eq!(rt; scripts.log().get(6), Some(Mark::started(8, false, 1)));
     assert_eq!(rt; scripts.log().get(7), None);
     Ok(())

@@ -1,9 +1,10 @@
-use Rattle.std.proofs.Common.{◌≡◌, ap, ◌∙◌, arith}
+use Rattle.std.proofs.Common.{ap, ◌∙◌, arith}
 use Rattle.ppp_hooks.specs.HookFacts.{with_closed}
 use Rattle.ppp_hooks.specs.HookMark.{Closed}
-use Rattle.ppp_mark.specs.ScriptLog.{closed_mark, with_due_mark}
+use Rattle.ppp_mark.specs.Log.{AreOf}
+use Rattle.ppp_mark.specs.ScriptLog.{closed_mark}
 use Rattle.ppp_mark.specs.Scripts.{said_in}
-use Rattle.ppp_mark.proofs.ScriptLemmas.{closed-no-start, closing_keeps, kept_on, said_after, said-closed, written}
+use Rattle.ppp_mark.proofs.ScriptLemmas.{closing_keeps, kept_on, said_after, said-closed, written}
 use Rattle.ppp_mark.proofs.script_log.close_scripts.Goals as goal
 
 is_written : goal.returns-clause-log
@@ -12,7 +13,7 @@ is_written g c =
     let hooks = said_in old.past in
     let target = c.args.machine.now.target in
     let n = c.args.opening in
-    rw (c.mark_start.ensures, c.add.ensures, c.mark_closed.ensures.value, c.target.ensures, c.starts-before.ensures.value)
+    rw (c.mark_start.ensures.log, c.add.ensures, c.mark_closed.ensures.value, c.target.ensures, c.starts-before.ensures.value)
     (written c.args.time old (closed_mark target c.args.time n) (Closed n) _ (said-closed target c.args.time n hooks)
     (c.closed.ensures.due hooks n c.requires.kept.stands))
 
@@ -26,12 +27,14 @@ returns-clause-kept g c =
     let kept = c.requires.kept in
     let target = c.args.machine.now.target in
     let n = c.args.opening in
-    let after : c.mark_start.new.log ≡ with_due_mark c.args.time (closed_mark target c.args.time n) old = is_written g c in
-    rw after
-    (kept_on c.args.machine.now c.closed.new.self old c.args.time (closed_mark target c.args.time n) (Closed n)
-    (with_closed c.args.machine.now.facts) kept (said-closed target c.args.time n hooks) (closed-no-start target c.args.time n)
+    let owner = rw c.target.ensures at c.mark_closed.ensures.of_target in
+    let of_table : AreOf target c.mark_start.new.log.past =
+    c.mark_start.ensures.of_table target (rw c.add.ensures (owner, c.mark_closed.ensures.in_table, kept.of_table)) in
+    kept_on c.closed.new.self target old c.mark_start.new.log c.args.time (closed_mark target c.args.time n) (Closed n)
+    (with_closed c.args.machine.now.facts) (is_written g c) (ap (λ m. m.target) c.closed.ensures.now) of_table kept.small
+    (said-closed target c.args.time n hooks)
     (ap (λ m. m.facts) c.closed.ensures.now) (c.closed.ensures.stands hooks n kept.stands c.requires.opened)
-    (omega (arith, kept.greatest)) kept.starts)
+    (omega (arith, kept.greatest)) kept.starts
 
 is_said : goal.returns-clause-said
 is_said g c =
