@@ -1,3 +1,5 @@
 pub mod Calls
+pub mod GivenLemmas
+pub mod OneMore
 pub mod Places
 pub mod Stands

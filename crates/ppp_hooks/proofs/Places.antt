@@ -8,20 +8,20 @@ use Rattle.ppp_hooks.specs.HookLaw.{Alternate, IsOpenAfter, LastStartIs, IsInPla
 use Rattle.ppp_hooks.specs.HookPast.{starts_in, ends_in, open_in, last_in, IsLawful, IsSettled, IsDown, Matches}
 use Rattle.ppp_hooks.specs.Settled.{NoneRuns, IsPresentOpening, Settled}
 
-count_by-append : (p : HookMark → Bool) (xs ys : List HookMark) → count_by p (xs ++ ys) ≡ count_by p xs + count_by p ys
+pub count_by-append : (p : HookMark → Bool) (xs ys : List HookMark) → count_by p (xs ++ ys) ≡ count_by p xs + count_by p ys
 count_by-append p xs ys = sum_by-append (λ x. cond (p x) 1 0) xs ys
 
-count_by-cons : (p : HookMark → Bool) (x : HookMark) (xs : List HookMark) → count_by p (x ∷ xs) ≡ cond (p x) 1 0 + count_by p xs
+pub count_by-cons : (p : HookMark → Bool) (x : HookMark) (xs : List HookMark) → count_by p (x ∷ xs) ≡ cond (p x) 1 0 + count_by p xs
 count_by-cons p x xs = sum_by-cons (λ y. cond (p y) 1 0) x xs
 
 -- turned round: the newest mark is the last
-reverse-cons : (x : HookMark) (xs : List HookMark) → reverse (x ∷ xs) ≡ reverse xs ++ x ∷ []
+pub reverse-cons : (x : HookMark) (xs : List HookMark) → reverse (x ∷ xs) ≡ reverse xs ++ x ∷ []
 reverse-cons x xs = reverse-append (x ∷ []) xs
 
 reverse-nil : reverse {A = HookMark} [] ≡ []
 reverse-nil = refl
 
-count_by-reverse : (p : HookMark → Bool) (xs : List HookMark) → count_by p (reverse xs) ≡ count_by p xs
+pub count_by-reverse : (p : HookMark → Bool) (xs : List HookMark) → count_by p (reverse xs) ≡ count_by p xs
 count_by-reverse p [] = ap (count_by p) reverse-nil
 count_by-reverse p (x ∷ xs) =
     ap (count_by p) (reverse-cons x xs) ∙ omega (arith, count_by-append p (reverse xs) (x ∷ []), count_by-reverse p xs, count_by-cons p x xs, count_by-cons p x [])
@@ -30,14 +30,14 @@ lawful-rest : (xs ys : List HookMark) → IsLawful (xs ++ ys) → IsLawful ys
 lawful-rest [] ys l = l
 lawful-rest (x ∷ xs) ys l = lawful-rest xs ys l.1
 
-starts_are : (xs : List HookMark) → starts_in xs ≡ count_by is_start xs
+pub starts_are : (xs : List HookMark) → starts_in xs ≡ count_by is_start xs
 starts_are [] = refl
 starts_are (Opened n ∷ xs) = omega (arith, starts_are xs, count_by-cons is_start (Opened n) xs)
 starts_are (Closed n ∷ xs) = omega (arith, starts_are xs, count_by-cons is_start (Closed n) xs)
 starts_are (Started up n ∷ xs) = omega (arith, starts_are xs, count_by-cons is_start (Started up n) xs)
 starts_are (Ended answer job ∷ xs) = omega (arith, starts_are xs, count_by-cons is_start (Ended answer job) xs)
 
-ends_are : (xs : List HookMark) → ends_in xs ≡ count_by is_end xs
+pub ends_are : (xs : List HookMark) → ends_in xs ≡ count_by is_end xs
 ends_are [] = refl
 ends_are (Opened n ∷ xs) = omega (arith, ends_are xs, count_by-cons is_end (Opened n) xs)
 ends_are (Closed n ∷ xs) = omega (arith, ends_are xs, count_by-cons is_end (Closed n) xs)
@@ -45,7 +45,7 @@ ends_are (Started up n ∷ xs) = omega (arith, ends_are xs, count_by-cons is_end
 ends_are (Ended answer job ∷ xs) = omega (arith, ends_are xs, count_by-cons is_end (Ended answer job) xs)
 
 -- what is open in a past was opened, and nothing was opened or closed since
-opened-in : (past : List HookMark) (n : ℕ) → open_in past ≡ Some n
+pub opened-in : (past : List HookMark) (n : ℕ) → open_in past ≡ Some n
     → (later : List HookMark) × (earlier : List HookMark) × (past ≡ later ++ Opened n ∷ earlier) × (count_by is_closing later ≡ 0) × (count_by is_opening later ≡ 0)
 opened-in [] n e = absurd (cc e)
 opened-in (Opened m ∷ past) n e = let same : m ≡ n = cc e in ([], past, ap (λ k. Opened k ∷ past) same, refl, refl)
@@ -95,7 +95,7 @@ open-since (Started up m ∷ later) earlier n l none = open-since later earlier 
 open-since (Ended answer job ∷ later) earlier n l none = open-since later earlier n l.1 (omega (arith, none, count_by-cons is_closing (Ended answer job) later))
 
 -- the direction that comes after these
-turn_after : Bool → List Bool → Bool
+unfoldable pub turn_after : Bool → List Bool → Bool
 turn_after first [] = first
 turn_after first (up ∷ ups) = turn_after (not first) ups
 
@@ -104,23 +104,23 @@ unfolding turn_after
 Alternate-more first [] up t e = (e, tt)
 Alternate-more first (u ∷ us) up t e = (t.0, Alternate-more (not first) us up t.1 e)
 
-turn_after-more : (first : Bool) (ups : List Bool) (up : Bool) → turn_after first (ups ++ up ∷ []) ≡ not (turn_after first ups)
+pub turn_after-more : (first : Bool) (ups : List Bool) (up : Bool) → turn_after first (ups ++ up ∷ []) ≡ not (turn_after first ups)
 unfolding turn_after
 turn_after-more first [] up = refl
 turn_after-more first (u ∷ us) up = turn_after-more (not first) us up
 
-directions-append : (xs ys : List HookMark) → directions (xs ++ ys) ≡ directions xs ++ directions ys
+pub directions-append : (xs ys : List HookMark) → directions (xs ++ ys) ≡ directions xs ++ directions ys
 directions-append [] ys = refl
 directions-append (Opened n ∷ xs) ys = directions-append xs ys
 directions-append (Closed n ∷ xs) ys = directions-append xs ys
 directions-append (Started up n ∷ xs) ys = ap (λ ds. up ∷ ds) (directions-append xs ys)
 directions-append (Ended answer job ∷ xs) ys = directions-append xs ys
 
-directions-reverse : (x : HookMark) (xs : List HookMark) → directions (reverse (x ∷ xs)) ≡ directions (reverse xs) ++ directions (x ∷ [])
+pub directions-reverse : (x : HookMark) (xs : List HookMark) → directions (reverse (x ∷ xs)) ≡ directions (reverse xs) ++ directions (x ∷ [])
 directions-reverse x xs = ap directions (reverse-cons x xs) ∙ directions-append (reverse xs) (x ∷ [])
 
 -- the direction of the next start
-abbrev next_of : Option (Bool × ℕ) → Bool
+abbrev pub next_of : Option (Bool × ℕ) → Bool
 next_of None = true
 next_of (Some s) = not s.0
 
@@ -155,16 +155,16 @@ turns-in (Started true n ∷ past) l = turns-more true n _ past (next_of-down (l
 turns-in (Started false n ∷ past) l = turns-more false n _ past (sym (ap next_of l.0.1)) (turns-in past l.1)
 turns-in (Ended answer job ∷ past) l = turns-same _ (Ended answer job) past refl (turns-in past l.1)
 
-turned : (a b : List HookMark) (x : HookMark) → reverse (a ++ x ∷ b) ≡ reverse b ++ x ∷ reverse a
+pub turned : (a b : List HookMark) (x : HookMark) → reverse (a ++ x ∷ b) ≡ reverse b ++ x ∷ reverse a
 turned a b x = reverse-append a (x ∷ b) ∙ ap (λ xs. xs ++ reverse a) (reverse-cons x b) ∙ append_assoc (reverse b) (x ∷ []) (reverse a)
 
-starts-before : (before : List HookMark) → starts_in (reverse before) ≡ count_by is_start before
+pub starts-before : (before : List HookMark) → starts_in (reverse before) ≡ count_by is_start before
 starts-before before = starts_are (reverse before) ∙ count_by-reverse is_start before
 
-ends-before : (before : List HookMark) → ends_in (reverse before) ≡ count_by is_end before
+pub ends-before : (before : List HookMark) → ends_in (reverse before) ≡ count_by is_end before
 ends-before before = ends_are (reverse before) ∙ count_by-reverse is_end before
 
-open-before : (before : List HookMark) (n : ℕ) → open_in (reverse before) ≡ Some n → IsOpenAfter before n
+pub open-before : (before : List HookMark) (n : ℕ) → open_in (reverse before) ≡ Some n → IsOpenAfter before n
 open-before before n e =
     let r = opened-in (reverse before) n e in (
       reverse r.1,
@@ -173,7 +173,7 @@ open-before before n e =
       count_by-reverse is_closing r.0 ∙ r.3,
     )
 
-last-start : (past : List HookMark) (up : Bool) (n : ℕ) → last_in past ≡ Some (up, n) → LastStartIs (reverse past) up n
+pub last-start : (past : List HookMark) (up : Bool) (n : ℕ) → last_in past ≡ Some (up, n) → LastStartIs (reverse past) up n
 last-start past up n e =
     let r = started-in past up n e in
     (reverse r.1, reverse r.0, ap reverse r.2 ∙ turned r.0 r.1 (Started up n), count_by-reverse is_start r.0 ∙ r.3)
@@ -187,7 +187,7 @@ still-open before n l h =
     let e : reverse before ≡ reverse h.1 ++ Opened n ∷ reverse h.0 = ap reverse h.2 ∙ turned h.0 h.1 (Opened n) in
     ap open_in e ∙ open-since (reverse h.1) (reverse h.0) n (subst IsLawful e l) (count_by-reverse is_closing h.1 ∙ h.3)
 
-in-place : (before : List HookMark) (mark : HookMark) → IsLawful (mark ∷ reverse before) → IsInPlace before mark
+in-place : (before : List HookMark) (mark : HookMark) → IsLawful (mark ∷ reverse before) → IsInPlace 0 before mark
 in-place before (Opened n) l = tt
 in-place before (Closed n) l = tt
 in-place before (Started true n) l = (sym (ends-before before) ∙ l.0.0 ∙ starts-before before, open-before before n l.0.2)
@@ -200,7 +200,7 @@ in-place before (Ended answer job) l =
     (omega (arith, l.0.1, ends-before before), omega (arith, l.0.0, l.0.1, ends-before before, starts-before before))
 
 -- The law of site scripts, of a lawful past that is read from its oldest mark on.
-pub law_of_past : (past : List HookMark) → IsLawful past → HookLaw (reverse past)
+pub law_of_past : (past : List HookMark) → IsLawful past → HookLaw 0 (reverse past)
 law_of_past past l = record {
   alternate = (turns-in past l).0;
   places = λ before after mark e.
@@ -215,11 +215,11 @@ no-start (Closed n ∷ past) e = no-start past e
 no-start (Started up n ∷ past) e = absurd (cc e)
 no-start (Ended answer job ∷ past) e = no-start past e
 
-none-runs : (past : List HookMark) → NoneRuns (reverse past) → ends_in past ≡ starts_in past
+pub none-runs : (past : List HookMark) → NoneRuns (reverse past) → ends_in past ≡ starts_in past
 none-runs past e =
     ends_are past ∙ sym (count_by-reverse is_end past) ∙ e ∙ count_by-reverse is_start past ∙ sym (starts_are past)
 
-present : (past : List HookMark) (n : ℕ) → open_in past ≡ Some n → IsPresentOpening (reverse past) n
+pub present : (past : List HookMark) (n : ℕ) → open_in past ≡ Some n → IsPresentOpening (reverse past) n
 present past n e =
     let r = opened-in past n e in
     (reverse r.1, reverse r.0, ap reverse r.2 ∙ turned r.0 r.1 (Opened n), count_by-reverse is_opening r.0 ∙ r.4)

@@ -1,5 +1,5 @@
 -- What a list of marks says, read from its newest mark back: here the newest mark comes first, so that one more mark is one more step.
-use Rattle.std.specs.Prelude.{ℕ, ◌+◌, ◌<◌, ◌≡◌, ◌≢◌, Bool, true, false, Option, None, Some, List, [], ◌∷◌, ⊤}
+use Rattle.std.specs.Prelude.{ℕ, ◌+◌, ◌<◌, ◌≡◌, ◌≢◌, Bool, true, false, nat_lt, Option, None, Some, List, [], ◌∷◌, ⊤, if◌then◌else◌}
 use Rattle.ppp_outside.specs.declared.spawner.ScriptEnd.{ScriptEnd}
 use Rattle.ppp_outside.specs.declared.spawner.ScriptEnd.TheVariants.{Exit, Killed, NotStarted}
 use Rattle.ppp_hooks.specs.HookMark.{HookMark, Opened, Closed, Started, Ended}
@@ -56,6 +56,10 @@ last_in (Opened n ∷ past) = last_in past
 last_in (Closed n ∷ past) = last_in past
 last_in (Started up n ∷ past) = Some (up, n)
 last_in (Ended answer job ∷ past) = last_in past
+
+-- the job that runs
+abbrev pub running_in : List HookMark → Option ℕ
+running_in past = if nat_lt (ends_in past) (starts_in past) then Some (starts_in past) else None
 
 -- the last start was a down, or there was none
 abbrev pub IsDown : Option (Bool × ℕ) → Type 0

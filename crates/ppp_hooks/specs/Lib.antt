@@ -4,6 +4,7 @@ pub mod HookFacts
 pub mod HookLaw
 pub mod HookMark
 pub mod HookPast
+pub mod HookPlace
 pub mod HookRule
 pub mod HookRuns
 pub mod HookState

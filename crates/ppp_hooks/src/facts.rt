@@ -1,7 +1,7 @@
 ghost use Rattle.std.specs.Prelude.{◌≡◌, [], ℕ, ◌+◌, ◌-◌, ◌^◌, ◌<◌, ◌≤◌, ◌∷◌, List, None, Some, option_map, if◌then◌else◌, nat_lt};
 ghost use Rattle.ppp_hooks.specs.HookFacts.{settled, start_due, with_open, with_closed, with_end, up_of, down_of, start_key, opening_number, StandsFor, HasArgs, started, no_facts};
 ghost use Rattle.ppp_hooks.specs.HookMark.{HookMark, Opened, Closed, Ended};
-ghost use Rattle.ppp_hooks.specs.HookPast.{not_started_by, starts_in, ends_in, open_in, greatest_in, last_in};
+ghost use Rattle.ppp_hooks.specs.HookPast.{not_started_by, starts_in, ends_in, open_in, greatest_in, last_in, running_in};
 ghost use Rattle.ppp_hooks.specs.HookRule.{due_after, with_due};
 ghost use Rattle.ppp_hooks.specs.HookWords.{words_of_start, script_for};
 
@@ -215,7 +215,7 @@ impl HookFacts {
     pub fn running(&self) -> Option<u32>
         ensures value { result ≡ (if nat_lt self.now.ends self.now.starts then Some self.now.starts else None) }
         ensures of_past { (past : List HookMark) → StandsFor self.now past
-            → result ≡ (if nat_lt (ends_in past) (starts_in past) then Some (starts_in past) else None) }
+            → result ≡ running_in past }
     {
         if self.ends < self.starts {
             Some(self.starts)

@@ -3,7 +3,7 @@ ghost use Rattle.ppp_hooks.specs.HookCall.{HookCall, Opens, Closes, TakesJob, En
 ghost use Rattle.ppp_hooks.specs.HookCounts.{MachineCounts, JobCounts, DoneCounts};
 ghost use Rattle.ppp_hooks.specs.HookFacts.{StandsFor, HasArgs, settled, started, with_open, with_closed, with_end, start_key, opening_number, no_facts};
 ghost use Rattle.ppp_hooks.specs.HookMark.{HookMark, Opened, Closed, Ended};
-ghost use Rattle.ppp_hooks.specs.HookPast.{starts_in, ends_in, open_in, greatest_in, last_in};
+ghost use Rattle.ppp_hooks.specs.HookPast.{starts_in, ends_in, open_in, greatest_in, last_in, running_in};
 ghost use Rattle.ppp_hooks.specs.HookRule.{due_after, with_due};
 ghost use Rattle.ppp_hooks.specs.HookRuns.{MachineTells, GivenLast, IsFaithful};
 ghost use Rattle.ppp_hooks.specs.HookState.{JobState};
@@ -163,6 +163,13 @@ impl<S: Spawner> HookMachine<S> {
         Ok(())
     }
 
+    /// Whose scripts they are.
+    pub fn target(&self) -> HookTarget
+        ensures { result ≡ self.now.target }
+    {
+        self.target
+    }
+
     /// The last start.
     pub fn last(&self) -> Option<HookStart>
         ensures value { option_map (λ (s : HookStart). (s.up, s.opening)) result ≡ option_map start_key self.now.facts.last }
@@ -191,7 +198,7 @@ impl<S: Spawner> HookMachine<S> {
     pub fn running(&self) -> Option<u32>
         ensures value { result ≡ (if nat_lt self.now.facts.ends self.now.facts.starts then Some self.now.facts.starts else None) }
         ensures of_past { (past : List HookMark) → StandsFor self.now.facts past
-            → result ≡ (if nat_lt (ends_in past) (starts_in past) then Some (starts_in past) else None) }
+            → result ≡ running_in past }
     {
         self.facts.running()
     }

@@ -1,9 +1,9 @@
 -- The headline for one unit: after each step of a run its scripts keep the law and agree with the automaton.
-use Rattle.std.proofs.Common.{◌≡◌, ℕ, ◌+◌, ◌<◌, ◌≤◌, Bool, true, false, Option, None, Some, List, [], ◌∷◌, ◌++◌, refl, ap, sym, ◌∙◌, subst, arith}
+use Rattle.std.proofs.Common.{◌≡◌, ℕ, ◌+◌, ◌<◌, ◌≤◌, Bool, true, false, Option, None, Some, List, [], ◌∷◌, ◌++◌, refl, ap, ◌∙◌, subst, arith}
 use Rattle.std.specs.Prelude.{◌==◌, is_some, nat_lt, nat_eq, take, reverse, if◌then◌else◌}
 use Rattle.std.specs.Option.{option_eq}
 use Rattle.std.proofs.lemmas.Bool.Decides.{nat_tests}
-use Rattle.ppp_fsm.specs.Fsm.{Automaton, acts_of, after}
+use Rattle.ppp_fsm.specs.Fsm.{acts_of, after}
 use Rattle.ppp_fsm.specs.Opening.{layer_change}
 use Rattle.ppp_fsm.proofs.OpeningLemmas.{opens_by_acts}
 use Rattle.ppp_outside.specs.declared.spawner.ScriptEnd.{ScriptEnd}
@@ -16,9 +16,10 @@ use Rattle.ppp_hooks.proofs.Calls.{due_keeps}
 use Rattle.ppp_hooks.proofs.Places.{law_of_past, settled_of_past}
 use Rattle.ppp_trace.specs.declared.step.BareStep.{BareStep}
 use Rattle.ppp_trace.specs.declared.step.BareStep.TheVariants.{Event, End}
-use Rattle.ppp_replay.specs.BareRun.{BareRun, Headline, KeepsScripts, after_acts, after_step, run_from, run_of, run_start, runs_job}
+use Rattle.ppp_replay.specs.BareRun.{BareRun, Headline, KeepsScripts, after_step, run_from, run_of, run_start, runs_job}
 use Rattle.ppp_replay.proofs.PlayerLemmas.{job_is}
-use Rattle.ppp_replay.proofs.RunLawLemmas.{after_layer_acts}
+use Rattle.ppp_bundle.proofs.ActLemmas.{after_layer_acts}
+use Rattle.ppp_bundle.specs.Acts.{after_acts}
 
 -- a past that is lawful and settled, whose protocol is open as said
 pub record Goes (past : List HookMark) (is_open : Bool) : Type 0 where

@@ -1,5 +1,5 @@
 -- What a player's calls make of its run.
-use Rattle.std.proofs.Common.{◌≡◌, ℕ, Bool, true, false, Option, None, Some, List, Result, Ok, Err, refl, sym, arith}
+use Rattle.std.proofs.Common.{◌≡◌, ℕ, Bool, true, false, None, Some, List, Result, Ok, Err, refl, sym, arith}
 use Rattle.std.specs.Prelude.{not, nat_eq, OnOk, if◌then◌else◌}
 use Rattle.std.specs.Option.{option_eq}
 use Rattle.std.specs.Result.{is_ok}

@@ -1,13 +1,11 @@
 -- The run of a bare trace: one automaton (RFC 1661, section 4) with its ip scripts (pppd(8), "Scripts").
-use Rattle.std.specs.Prelude.{ℕ, ◌+◌, ◌==◌, ◌≡◌, Bool, nat_lt, nat_eq, Option, None, Some, List, [], ◌∷◌, ◌++◌, take, reverse, if◌then◌else◌}
+use Rattle.std.specs.Prelude.{ℕ, ◌==◌, Bool, nat_eq, Some, List, [], ◌∷◌, take, reverse, if◌then◌else◌}
 use Rattle.std.specs.Option.{option_eq}
-use Rattle.ppp_fsm.specs.declared.acts.Act.{Act}
-use Rattle.ppp_fsm.specs.declared.acts.Act.TheVariants.{Tlu, Tld}
+use Rattle.ppp_bundle.specs.Acts.{after_acts}
 use Rattle.ppp_fsm.specs.Fsm.{Automaton, acts_of, after}
-use Rattle.ppp_hooks.specs.HookCall.{closed_marks}
 use Rattle.ppp_hooks.specs.HookLaw.{HookLaw}
-use Rattle.ppp_hooks.specs.HookMark.{HookMark, Opened, Ended}
-use Rattle.ppp_hooks.specs.HookPast.{starts_in, ends_in, open_in, greatest_in}
+use Rattle.ppp_hooks.specs.HookMark.{HookMark, Ended}
+use Rattle.ppp_hooks.specs.HookPast.{running_in}
 use Rattle.ppp_hooks.specs.HookRule.{with_due}
 use Rattle.ppp_hooks.specs.Settled.{Settled}
 use Rattle.ppp_trace.specs.declared.step.BareStep.{BareStep}
@@ -17,20 +15,6 @@ use Rattle.ppp_trace.specs.declared.step.BareStep.TheVariants.{Event, End}
 pub record BareRun : Type 0 where
   pub automaton : Automaton
   pub past : List HookMark
-
--- This-Layer-Up opens the unit under the next number, This-Layer-Down closes it, and the script that is due then starts.
-abbrev pub after_act : Act → List HookMark → List HookMark
-after_act Tlu past = with_due (Opened (greatest_in past + 1) ∷ past)
-after_act Tld past = with_due (closed_marks (open_in past) ++ past)
-after_act _ past = past
-
-unfoldable pub after_acts : List Act → List HookMark → List HookMark
-after_acts [] past = past
-after_acts (act ∷ acts) past = after_acts acts (after_act act past)
-
--- the job that runs
-abbrev pub running_in : List HookMark → Option ℕ
-running_in past = if nat_lt (ends_in past) (starts_in past) then Some (starts_in past) else None
 
 -- whether it is this one
 abbrev pub runs_job : ℕ → List HookMark → Bool
@@ -59,7 +43,7 @@ run_of steps = run_from run_start steps
 -- The starts alternate, ip-up first, one at a time, each for its opening; and while none runs, the last was ip-up exactly
 -- where the automaton is in Opened.
 pub record KeepsScripts (run : BareRun) : Type 0 where
-  pub law : HookLaw (reverse run.past)
+  pub law : HookLaw 0 (reverse run.past)
   pub settled : Settled (reverse run.past) (run.automaton.state == 9)
 
 -- It holds after each of these steps.

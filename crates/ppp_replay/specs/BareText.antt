@@ -3,12 +3,12 @@ use Rattle.std.specs.Prelude.{ℕ, ◌+◌, ◌==◌, Bool, Option, None, Some, 
 use Rattle.std.specs.List.{flat_map}
 use Rattle.std.specs.Fmt.{decimal}
 use Rattle.ppp_fsm.specs.declared.acts.Act.{Act}
-use Rattle.ppp_fsm.specs.Fsm.{Automaton, acts_of}
+use Rattle.ppp_fsm.specs.Fsm.{acts_of}
 use Rattle.ppp_hooks.specs.HookMark.{HookMark}
-use Rattle.ppp_hooks.specs.HookPast.{starts_in, last_in}
+use Rattle.ppp_hooks.specs.HookPast.{starts_in, last_in, running_in}
 use Rattle.ppp_trace.specs.declared.step.BareStep.{BareStep}
 use Rattle.ppp_trace.specs.declared.step.BareStep.TheVariants.{Event, End}
-use Rattle.ppp_replay.specs.BareRun.{BareRun, after_step, run_start, running_in, runs_job}
+use Rattle.ppp_replay.specs.BareRun.{BareRun, after_step, run_start, runs_job}
 use Rattle.ppp_replay.specs.ActNames.{name_of}
 
 -- an act that follows another one

@@ -3,8 +3,6 @@
 #![tactic(auto)]
 
 mod act_names;
-pub mod bare;
-pub mod log;
 mod player;
 mod run;
 #[cfg(test)]
@@ -17,8 +15,9 @@ use std::rt::Env;
 use std::{env, io};
 
 fn main(rt: HostRuntime) -> ExitCode {
-    let Ok(words) = words_of(&rt) else {
-        return ExitCode::from(32);
+    let words = match words_of(&rt) {
+        Ok(words) => words,
+        Err(error) => return ExitCode::from(status_of(&error)),
     };
     let mut input = FromReader::new(rt.reader());
     let mut output = ToWriter::new(io::writer(&rt));
@@ -32,4 +31,14 @@ fn words_of(rt: &(impl Env + AllocGlobal)) -> io::Result<Vec<String>> {
         words.push(word)?;
     }
     Ok(words)
+}
+
+// The status where the words of the command line can't be had: one of them isn't UTF-8, and no such word is known, or
+// memory ran out.
+fn status_of(error: &io::Error) -> u8 {
+    if error.kind() == io::ErrorKind::InvalidData {
+        2
+    } else {
+        32
+    }
 }

@@ -1,8 +1,8 @@
 ghost use Rattle.std.specs.Prelude.{◌≡◌, ◌+◌, ◌<◌, ◌≤◌, IfOk, option_map};
 
-use crate::bare::{Bare, MOST_MARKS};
 use ppp_base::NoMemory;
-use ppp_fsm::{Acts, FsmEvent, Limits};
+use ppp_bundle::{Bare, MOST_MARKS};
+use ppp_fsm::{Acts, FsmEvent};
 use ppp_hooks::{HookJob, HookStart};
 use ppp_outside::{ReplaySpawner, ScriptEnd};
 use std::alloc::Global;
@@ -16,22 +16,22 @@ pub struct Player {
 }
 
 impl Model for Player {
-    ghost use Rattle.std.specs.Prelude.{◌≡◌, length};
-    ghost use Rattle.ppp_replay.specs.Log.{past_of};
+    ghost use Rattle.std.specs.Prelude.{◌==◌, length};
+    ghost use Rattle.ppp_mark.specs.Scripts.{said_in};
     ghost use Rattle.ppp_replay.specs.Player.{IsOut, PlayerState};
-    ghost use Rattle.ppp_replay.specs.declared.bare.TheConstants.{MOST_MARKS};
+    ghost use Rattle.ppp_bundle.specs.Bare.{IsBare};
 
     ghost Value = { PlayerState };
 
-    ghost view = { λ p. record { run = record { automaton = p.bare.automaton; past = past_of p.bare.log.marks }; marks = length p.bare.log.marks } };
+    ghost view = { λ p. record { run = record { automaton = p.bare.automaton; past = said_in p.bare.scripts.log.past }; marks = length p.bare.scripts.log.past } };
 
-    ghost invariant = { λ p. IsOut p.bare.machine p.errand × (p.bare.log.limit ≡ MOST_MARKS) };
+    ghost invariant = { λ p. IsOut p.bare.scripts p.errand × IsBare (p.bare.automaton.state == 9) p.bare.scripts };
 }
 
 impl Player {
     ghost use Rattle.ppp_fsm.specs.Fsm.{acts_of};
-    ghost use Rattle.ppp_hooks.specs.HookPast.{starts_in, last_in};
-    ghost use Rattle.ppp_replay.specs.BareRun.{after_step, run_start, running_in, runs_job};
+    ghost use Rattle.ppp_hooks.specs.HookPast.{starts_in, last_in, running_in};
+    ghost use Rattle.ppp_replay.specs.BareRun.{after_step, run_start, runs_job};
     ghost use Rattle.ppp_replay.specs.BareText.{start_since};
     ghost use Rattle.ppp_trace.specs.declared.step.BareStep.TheVariants.{Event, End};
 
@@ -39,11 +39,7 @@ impl Player {
     pub fn new(alloc: Global) -> Result<Player, NoMemory>
         ensures { IfOk result (λ p. p ≡ record { run = run_start; marks = 0 }) }
     {
-        let limits = Limits {
-            configure: 10,
-            terminate: 3,
-        };
-        let bare = Bare::new(alloc, limits, ReplaySpawner::new())?;
+        let bare = Bare::new(alloc, ReplaySpawner::new())?;
         Ok(Player { bare, errand: None })
     }
 

@@ -1,8 +1,6 @@
-use crate::bare::Bare;
 use crate::run::replay_run;
 use ppp_base::NoMemory;
-use ppp_fsm::{FsmEvent, Limits};
-use ppp_outside::{MemorySink, MemorySource, ReplaySpawner};
+use ppp_outside::{MemorySink, MemorySource};
 use std::alloc::Global;
 use std::test::Fail;
 
@@ -111,30 +109,5 @@ fn refuses_words(rt: HostRuntime) -> Result<(), Fail> {
     let mut sink = MemorySink::new(alloc, 16, 1, Vec::new(alloc))?;
     assert_eq!(rt; replay_run(alloc, &words, &mut source, &mut sink), 2);
     assert!(rt; sink.written().is_empty());
-    Ok(())
-}
-
-#[test]
-fn the_log_has_a_start_behind_its_cause(rt: HostRuntime) -> Result<(), Fail> {
-    let limits = Limits {
-        configure: 10,
-        terminate: 3,
-    };
-    let mut bare = Bare::new(rt.alloc(), limits, ReplaySpawner::new())?;
-    for event in [
-        FsmEvent::Open,
-        FsmEvent::Up,
-        FsmEvent::RcrGood,
-        FsmEvent::Rca,
-    ] {
-        if bare.log().room() >= 3 {
-            let _acts = bare.apply(event);
-        }
-    }
-    let kinds = [bare.log().get(0), bare.log().get(1), bare.log().get(2)].map(|mark| mark.map(
-        |mark| (mark.kind, mark.x, mark.z),
-    ));
-    assert_eq!(rt; kinds, [Some((35, 0, 1)), Some((7, 1, 1)), None]);
-    assert_eq!(rt; bare.take_job().map(|job| job.number()), Some(1));
     Ok(())
 }

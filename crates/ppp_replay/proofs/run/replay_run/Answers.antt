@@ -1,4 +1,3 @@
-use Rattle.std.proofs.Common.{sym}
 use Rattle.ppp_replay.proofs.RunLemmas.{full_known, refused_known, trace_no_fault, trace_not_full, whole_is}
 use Rattle.ppp_replay.proofs.run.replay_run.Goals as goal
 

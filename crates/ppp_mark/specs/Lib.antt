@@ -1,0 +1,13 @@
+pub use Rattle.ppp_hooks.specs.HookCounts
+pub use Rattle.ppp_hooks.specs.HookFacts
+pub use Rattle.ppp_hooks.specs.HookPast
+pub use Rattle.ppp_hooks.specs.HookRule
+pub use Rattle.ppp_hooks.specs.HookRuns
+pub use Rattle.ppp_hooks.specs.HookState
+pub use Rattle.ppp_hooks.specs.HookWords
+pub mod Table
+pub mod Marks
+pub mod Log
+pub mod Scripts
+pub mod ScriptLog
+pub mod Report
