@@ -1,0 +1,4 @@
+pub mod OursLemmas
+pub mod SessionLemmas
+pub mod HeardLemmas
+pub mod EventLemmas

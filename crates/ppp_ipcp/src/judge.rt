@@ -1,0 +1,133 @@
+ghost use Rattle.std.specs.Prelude.{◌≡◌, nat_le};
+ghost use Rattle.ppp_packet.specs.OptionsOf.{item};
+ghost use Rattle.ppp_control.specs.Answers.{answer_to};
+ghost use Rattle.ppp_control.specs.Judging.{judgement_of, answer_of, IsShort};
+ghost use Rattle.ppp_ipcp.specs.Address.{address_in, address_of, same_address, no_address, is_good, judged_for, judged_where};
+ghost use Rattle.ppp_ipcp.specs.Verdict.{verdict_to};
+
+use crate::wish::IpWish;
+use ppp_base::Allow;
+use ppp_control::{Judge, Judged, Verdict, verdict_by};
+use ppp_packet::OptionList;
+use ppp_secrets::SecretsPair;
+
+/// The type of the option IP-Address (RFC 1332, section 3.3).
+pub const IP_ADDRESS: u8 = 3;
+
+/// 0.0.0.0, which stands for no address.
+pub const NO_ADDRESS: [u8; 4] = [0, 0, 0, 0];
+
+/// The address that an option's data are.
+pub fn address_in(body: &[u8]) -> Option<[u8; 4]>
+    ensures { result ≡ address_in body.now }
+{
+    match body {
+        [a, b, c, d] => Some([*a, *b, *c, *d]),
+        _ => None,
+    }
+}
+
+/// The address of an option, if it is an IP-Address.
+pub fn address_of(kind: u8, body: &[u8]) -> Option<[u8; 4]>
+    ensures { result ≡ address_of (item kind body.now) }
+{
+    if kind == IP_ADDRESS {
+        address_in(body)
+    } else {
+        None
+    }
+}
+
+/// Whether two addresses are the same.
+pub fn same_address(a: [u8; 4], b: [u8; 4]) -> bool
+    ensures { result ≡ same_address a b }
+{
+    a == b
+}
+
+/// Whether an address is 0.0.0.0.
+pub fn is_none(address: [u8; 4]) -> bool
+    ensures { result ≡ same_address address no_address }
+{
+    same_address(address, NO_ADDRESS)
+}
+
+/// Who judges a request.
+#[derive(Drop)]
+struct IpJudge<'a> {
+    wish: &'a IpWish,
+    allow: Allow,
+    secrets: &'a SecretsPair,
+}
+
+impl IpJudge<'_> {
+    fn is_good(&self, address: [u8; 4]) -> bool
+        ensures { result ≡ is_good self.now.allow self.now.secrets.now address }
+    {
+        !is_none(address) && self.secrets.allows(self.allow, address)
+    }
+
+    fn address(&self, address: [u8; 4]) -> Judged<'_>
+        ensures judged { judgement_of result ≡ judged_for self.now.wish.now.remote self.now.wish.now.accept_remote (is_good self.now.allow self.now.secrets.now address) address }
+        ensures short { IsShort result }
+    {
+        let good = self.is_good(address);
+        match &self.wish.remote {
+            None => {
+                if good {
+                    Judged::Acked
+                } else {
+                    Judged::Rejected
+                }
+            }
+            Some(wished) => {
+                if good && (same_address(address, *wished) || self.wish.accept_remote) {
+                    Judged::Acked
+                } else {
+                    Judged::Named(wished)
+                }
+            }
+        }
+    }
+}
+
+impl Judge for IpJudge<'_> {
+    ghost judgement = { λ j i. judged_where j.wish.now j.allow j.secrets.now i };
+
+    fn judged(&self, kind: u8, body: &[u8]) -> Judged<'_> {
+        match address_of(kind, body) {
+            Some(address) => self.address(address),
+            None => Judged::Rejected,
+        }
+    }
+}
+
+fn answer(
+    request: &OptionList,
+    wish: &IpWish,
+    allow: Allow,
+    secrets: &SecretsPair,
+    naks: u8,
+) -> Verdict
+    ensures { answer_of result ≡ answer_to (judged_where wish.now allow secrets.now) (nat_le wish.now.max_failure naks) request.now }
+{
+    let judge = IpJudge {
+        wish,
+        allow,
+        secrets,
+    };
+    verdict_by(request, &judge, naks, wish.max_failure)
+}
+
+/// The answer to a peer's request (RFC 1332, section 3.3). `naks` counts the Naks since the last Ack that we sent.
+pub fn verdict(
+    request: &OptionList,
+    wish: &IpWish,
+    allow: Allow,
+    secrets: &SecretsPair,
+    naks: u8,
+) -> Verdict
+    ensures { result ≡ verdict_to request.now wish.now allow secrets.now naks }
+{
+    answer(request, wish, allow, secrets, naks)
+}
