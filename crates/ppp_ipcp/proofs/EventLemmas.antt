@@ -1,5 +1,5 @@
 -- The event and the acts that are told, and the automaton that is left.
-use Rattle.std.proofs.Common.{◌≡◌, ℕ, Bool, true, false, cond, Option, Some, None, List, [], refl, ap, sym, ◌∙◌}
+use Rattle.std.proofs.Common.{◌≡◌, ℕ, Bool, true, false, cond, Option, Some, None, [], refl, ap, sym, ◌∙◌}
 use Rattle.std.specs.Prelude.{◌==◌}
 use Rattle.ppp_fsm.specs.declared.event.FsmEvent.{FsmEvent}
 use Rattle.ppp_fsm.specs.declared.event.FsmEvent.TheVariants.{Timeout, Rca, Rcn}
@@ -20,7 +20,7 @@ use Rattle.ppp_control.proofs.TimingLemmas.{fsm_back}
 use Rattle.ppp_ipcp.specs.declared.ipcp.Ipcp.{Ipcp}
 use Rattle.ppp_ipcp.specs.Around.{Around}
 use Rattle.ppp_ipcp.specs.Object.{verdict_on}
-use Rattle.ppp_ipcp.specs.Steps.{plain, with_packet, with_nak, with_reject, answering, event_left, event_told, heard_left, heard_told, ticked, ticked_told, nothing_told}
+use Rattle.ppp_ipcp.specs.Steps.{plain, with_packet, with_nak, with_reject, answering, event_left, event_told, heard_left, heard_told, ticked, ticked_told}
 
 -- Opened is entered and left by the acts.
 pub opens_by : (i new : Ipcp) (out : StepOut) → out.acts ≡ acts_on i.core.fsm out.event → new.core.fsm ≡ moved_by out.event i.core.fsm

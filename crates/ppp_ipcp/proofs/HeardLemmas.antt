@@ -1,10 +1,9 @@
 -- What a packet that was heard leaves is what looking back gives.
-use Rattle.std.proofs.Common.{◌≡◌, ℕ, false, Option, Some, None, List, [], ◌∷◌, ◌++◌, refl, ap, sym, ◌∙◌, subst}
+use Rattle.std.proofs.Common.{◌≡◌, ℕ, false, Some, None, List, [], ◌∷◌, ◌++◌, refl, ap, sym, ◌∙◌, subst}
 use Rattle.std.specs.Prelude.{find}
 use Rattle.ppp_fsm.specs.declared.event.FsmEvent.{FsmEvent}
 use Rattle.ppp_fsm.specs.declared.event.FsmEvent.TheVariants.{Rca, Rcn}
 use Rattle.ppp_packet.specs.declared.packet.Packet.{Packet}
-use Rattle.ppp_packet.specs.OptionsOf.{Item}
 use Rattle.ppp_control.specs.declared.classes.HeardAs.{HeardAs}
 use Rattle.ppp_control.specs.declared.classes.HeardAs.TheVariants.{Request as Asks, Ack as Acked, Nak as Named, Reject as Rejected, Event, Discarded}
 use Rattle.ppp_control.specs.declared.negotiation.StepOut.{StepOut}
@@ -18,7 +17,7 @@ use Rattle.ppp_ipcp.specs.declared.ours.IpOurs.{IpOurs}
 use Rattle.ppp_ipcp.specs.declared.wish.IpWish.{IpWish}
 use Rattle.ppp_ipcp.specs.Around.{Around}
 use Rattle.ppp_ipcp.specs.Object.{verdict_on}
-use Rattle.ppp_ipcp.specs.Session.{IpcpCall, ip_rules, session_after, StandsFor, called}
+use Rattle.ppp_ipcp.specs.Session.{IpcpCall, ip_rules, StandsFor, called}
 use Rattle.ppp_ipcp.specs.Steps.{ip_told, with_packet, answering, with_nak, with_reject, heard_left, heard_told}
 use Rattle.ppp_ipcp.specs.Taking.{ours_of, asks, after_nak, after_reject}
 use Rattle.ppp_ipcp.proofs.OursLemmas.{nak_back, reject_back, our_nak_back}

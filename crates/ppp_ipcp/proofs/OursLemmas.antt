@@ -1,14 +1,11 @@
 -- What the code keeps of what we ask for is what looking back over the changes gives.
 use Rattle.std.proofs.Common.{◌≡◌, ℕ, Bool, true, false, cond, Option, Some, None, List, [], ◌∷◌, ◌++◌, refl, ap}
-use Rattle.std.specs.Option.{unwrap_or}
 use Rattle.ppp_packet.specs.declared.packet.Packet.{Packet}
 use Rattle.ppp_packet.specs.OptionsOf.{Item}
 use Rattle.ppp_control.specs.Changes.{Change, by_nak, by_reject, named_in, items_onto}
 use Rattle.ppp_control.specs.Rules.{our_nak}
-use Rattle.ppp_ipcp.specs.declared.ours.IpOurs.{IpOurs}
 use Rattle.ppp_ipcp.specs.declared.wish.IpWish.{IpWish}
-use Rattle.ppp_ipcp.specs.Address.{address_of}
-use Rattle.ppp_ipcp.specs.Ours.{takes_address, first_address, our_local}
+use Rattle.ppp_ipcp.specs.Ours.{takes_address, first_address}
 use Rattle.ppp_ipcp.specs.Taking.{ours_of, last_address, after_nak, after_reject}
 
 -- the last of some addresses is the first of them, the newest first

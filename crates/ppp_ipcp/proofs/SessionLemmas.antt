@@ -8,8 +8,8 @@ use Rattle.ppp_control.specs.declared.negotiation.Negotiation.{Negotiation}
 use Rattle.ppp_control.specs.declared.negotiation.StepOut.{StepOut}
 use Rattle.ppp_control.specs.Changes.{Change}
 use Rattle.ppp_control.specs.Given.{Given}
-use Rattle.ppp_control.specs.Past.{Agreement, agreement_after}
-use Rattle.ppp_control.specs.Rules.{Alone, event_of, Call, by_itself, ticks, happened_in, changes_by, changes_in, event_in, comes_with, aside}
+use Rattle.ppp_control.specs.Past.{Agreement}
+use Rattle.ppp_control.specs.Rules.{Alone, event_of, Call, by_itself, ticks, changes_by, changes_in, event_in, comes_with, aside}
 use Rattle.ppp_control.specs.Start.{is_due, agreement}
 use Rattle.ppp_control.specs.Step.{stepped, step_sends}
 use Rattle.ppp_control.proofs.AgreementLemmas.{agreement_so}
@@ -21,7 +21,7 @@ use Rattle.ppp_ipcp.specs.Agreed.{agreed_by}
 use Rattle.ppp_ipcp.specs.Around.{Around}
 use Rattle.ppp_ipcp.specs.Object.{agreed_in}
 use Rattle.ppp_ipcp.specs.Ours.{our_local}
-use Rattle.ppp_ipcp.specs.Session.{IpcpCall, ip_rules, session_after, StandsFor, called, agreed_after}
+use Rattle.ppp_ipcp.specs.Session.{IpcpCall, ip_rules, StandsFor, called, agreed_after}
 use Rattle.ppp_ipcp.specs.Steps.{plain, ip_told, nothing_told, event_left, event_told, ticked, ticked_told}
 use Rattle.ppp_ipcp.specs.Taking.{ours_of}
 

@@ -1,5 +1,5 @@
 -- Which address a peer may take (RFC 1332, section 3.3; pppd(8): ipcp-accept-remote, and the addresses of a secrets line).
-use Rattle.std.specs.Prelude.{ℕ, ◌==◌, nat_eq, not, ◌&&◌, ◌||◌, Bool, if◌then◌else◌, Option, Some, None, List, [], ◌∷◌, length}
+use Rattle.std.specs.Prelude.{ℕ, ◌==◌, nat_eq, not, ◌&&◌, ◌||◌, Bool, true, if◌then◌else◌, Option, Some, None, List, [], ◌∷◌, length}
 use Rattle.std.specs.Cmp.Lexicographic.{pointwise}
 use Rattle.std.specs.Int.{from_be_bytes, w32}
 use Rattle.ppp_base.specs.declared.allow.Allow.{Allow}
@@ -25,20 +25,24 @@ address_in body = if length body == 4 then Some body else None
 abbrev pub address_of : Item → Option (List ℕ)
 address_of i = if i.kind == IP_ADDRESS then address_in i.body else None
 
--- A good address isn't 0.0.0.0, and the line of the peer's secret allows it.
-abbrev pub is_good : Allow → SecretsPair → List ℕ → Bool
-is_good allow secrets address = not (same_address address no_address) && pair_allows secrets.pap secrets.chap allow (from_be_bytes w32 address)
+-- Whether it is the wished address, or another may be taken; where none is wished, any is as good.
+abbrev pub is_wished : Option (List ℕ) → Bool → List ℕ → Bool
+is_wished None any address = true
+is_wished (Some wished) any address = same_address address wished || any
 
--- Where no address is wished for the peer, a good one is acknowledged and any other rejected. Where one is, it is
--- acknowledged if it is good, and so is each other good one where any may be taken; else the wished one is named.
-abbrev pub judged_for : Option (List ℕ) → Bool → Bool → List ℕ → Judgement
-judged_for None any good address = if good then acks else rejects
-judged_for (Some wished) any good address = if good && (same_address address wished || any) then acks else names wished
+-- Whether a peer may have an address: it isn't 0.0.0.0, the line of the peer's secret allows it, and it is wished.
+abbrev pub may_have : IpWish → Allow → SecretsPair → List ℕ → Bool
+may_have wish allow secrets address =
+    not (same_address address no_address) && pair_allows secrets.pap secrets.chap allow (from_be_bytes w32 address) && is_wished wish.remote wish.accept_remote address
 
--- all options but IP-Address are rejected
+-- For an address that the peer may not have the wished one is named, if one is wished. All other options are rejected.
+abbrev pub wished_or_none : Option (List ℕ) → Judgement
+wished_or_none None = rejects
+wished_or_none (Some wished) = names wished
+
 abbrev pub judged_as : IpWish → Allow → SecretsPair → Option (List ℕ) → Judgement
 judged_as wish allow secrets None = rejects
-judged_as wish allow secrets (Some address) = judged_for wish.remote wish.accept_remote (is_good allow secrets address) address
+judged_as wish allow secrets (Some address) = if may_have wish allow secrets address then acks else wished_or_none wish.remote
 
 abbrev pub judged_where : IpWish → Allow → SecretsPair → Item → Judgement
 judged_where wish allow secrets i = judged_as wish allow secrets (address_of i)

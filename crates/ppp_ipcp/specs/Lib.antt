@@ -5,6 +5,7 @@ pub mod Taking
 pub mod Agreed
 pub mod Around
 pub mod Session
+pub mod MayHave
 pub mod Object
 pub mod Steps
 pub mod Rows

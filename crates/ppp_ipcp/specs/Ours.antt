@@ -1,6 +1,6 @@
 -- What we ask for, as a function of the wish and of what changed it in the session, the newest first
 -- (RFC 1661, sections 5.3 and 5.4; RFC 1332, section 3.3; pppd(8): ipcp-accept-local).
-use Rattle.std.specs.Prelude.{ℕ, not, ◌||◌, Bool, if◌then◌else◌, Option, Some, None, List, [], ◌∷◌}
+use Rattle.std.specs.Prelude.{ℕ, not, ◌||◌, Bool, if◌then◌else◌, List, [], ◌∷◌}
 use Rattle.std.specs.Option.{unwrap_or}
 use Rattle.ppp_packet.specs.OptionsOf.{Item}
 use Rattle.ppp_control.specs.Changes.{Change, is_left_out, named_in, asked_if}

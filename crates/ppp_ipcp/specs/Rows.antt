@@ -1,11 +1,9 @@
 -- Worked sessions of IPCP, as calls with what they answer.
-use Rattle.std.specs.Prelude.{ℕ, true, false, Some, None, Option, List, [], ◌∷◌, ◌++◌}
-use Rattle.ppp_base.specs.declared.allow.Allow.{Allow}
+use Rattle.std.specs.Prelude.{ℕ, true, false, Some, None, List, [], ◌∷◌, ◌++◌}
 use Rattle.ppp_base.specs.declared.allow.Allow.TheVariants.{Any, Pap, Chap}
 use Rattle.ppp_fsm.specs.declared.event.FsmEvent.TheVariants.{Up, Open, Timeout, RcrGood, RcrBad, Rca, Rcn, Rtr, Ruc}
 use Rattle.ppp_fsm.specs.declared.acts.Act.TheVariants.{Tlu, Tld, Tls, Tlf, Irc, Zrc, Scr, Sca, Scn, Sta, Scj}
 use Rattle.ppp_fsm.specs.declared.fsm.Limits.{Limits}
-use Rattle.ppp_secrets.specs.declared.address_word.AddressWord.{AddressWord}
 use Rattle.ppp_secrets.specs.declared.address_word.Cover.TheVariants.{Subnet}
 use Rattle.ppp_secrets.specs.declared.secrets.SecretsPair.{SecretsPair}
 use Rattle.ppp_secrets.specs.SecretLine.{SecretLine}

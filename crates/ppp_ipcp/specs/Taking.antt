@@ -1,5 +1,5 @@
 -- What the code keeps of what we ask for, what it asks, and what it does at a Nak and at a Reject of our last request.
-use Rattle.std.specs.Prelude.{ℕ, not, ◌||◌, Bool, if◌then◌else◌, List, [], ◌∷◌}
+use Rattle.std.specs.Prelude.{ℕ, not, ◌||◌, if◌then◌else◌, List, [], ◌∷◌}
 use Rattle.std.specs.Option.{unwrap_or}
 use Rattle.ppp_packet.specs.OptionsOf.{Item}
 use Rattle.ppp_control.specs.Changes.{Change, is_left_out, names_kind, asked_if}

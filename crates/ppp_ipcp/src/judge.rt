@@ -1,8 +1,8 @@
-ghost use Rattle.std.specs.Prelude.{◌≡◌, nat_le};
+ghost use Rattle.std.specs.Prelude.{◌≡◌, nat_le, Some};
 ghost use Rattle.ppp_packet.specs.OptionsOf.{item};
 ghost use Rattle.ppp_control.specs.Answers.{answer_to};
 ghost use Rattle.ppp_control.specs.Judging.{judgement_of, answer_of, IsShort};
-ghost use Rattle.ppp_ipcp.specs.Address.{address_in, address_of, same_address, no_address, is_good, judged_for, judged_where};
+ghost use Rattle.ppp_ipcp.specs.Address.{address_in, address_of, same_address, no_address, is_wished, may_have, wished_or_none, judged_as, judged_where};
 ghost use Rattle.ppp_ipcp.specs.Verdict.{verdict_to};
 
 use crate::wish::IpWish;
@@ -61,32 +61,39 @@ struct IpJudge<'a> {
 }
 
 impl IpJudge<'_> {
-    fn is_good(&self, address: [u8; 4]) -> bool
-        ensures { result ≡ is_good self.now.allow self.now.secrets.now address }
+    fn is_wished(&self, address: [u8; 4]) -> bool
+        ensures { result ≡ is_wished self.now.wish.now.remote self.now.wish.now.accept_remote address }
     {
-        !is_none(address) && self.secrets.allows(self.allow, address)
+        match self.wish.remote {
+            Some(wished) => same_address(address, wished) || self.wish.accept_remote,
+            None => true,
+        }
+    }
+
+    fn may_have(&self, address: [u8; 4]) -> bool
+        ensures { result ≡ may_have self.now.wish.now self.now.allow self.now.secrets.now address }
+    {
+        !is_none(address) && self.secrets.allows(self.allow, address) && self.is_wished(address)
+    }
+
+    fn wished_or_none(&self) -> Judged<'_>
+        ensures judged { judgement_of result ≡ wished_or_none self.now.wish.now.remote }
+        ensures short { IsShort result }
+    {
+        match &self.wish.remote {
+            Some(wished) => Judged::Named(wished),
+            None => Judged::Rejected,
+        }
     }
 
     fn address(&self, address: [u8; 4]) -> Judged<'_>
-        ensures judged { judgement_of result ≡ judged_for self.now.wish.now.remote self.now.wish.now.accept_remote (is_good self.now.allow self.now.secrets.now address) address }
+        ensures judged { judgement_of result ≡ judged_as self.now.wish.now self.now.allow self.now.secrets.now (Some address) }
         ensures short { IsShort result }
     {
-        let good = self.is_good(address);
-        match &self.wish.remote {
-            None => {
-                if good {
-                    Judged::Acked
-                } else {
-                    Judged::Rejected
-                }
-            }
-            Some(wished) => {
-                if good && (same_address(address, *wished) || self.wish.accept_remote) {
-                    Judged::Acked
-                } else {
-                    Judged::Named(wished)
-                }
-            }
+        if self.may_have(address) {
+            Judged::Acked
+        } else {
+            self.wished_or_none()
         }
     }
 }

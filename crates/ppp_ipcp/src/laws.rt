@@ -1,10 +1,34 @@
-//! Worked sessions: that they are lawful follows from the definitions alone.
+//! What follows from the definitions alone: which address the peer has, and that worked sessions are lawful.
 
-ghost use Rattle.std.specs.Prelude.{◌≡◌, Some, None, [], ◌∷◌};
+ghost use Rattle.std.specs.Prelude.{◌≡◌, ◌↔◌, ℕ, Some, None, List, [], ◌∷◌};
+ghost use Rattle.ppp_base.specs.declared.allow.Allow.{Allow};
+ghost use Rattle.ppp_packet.specs.OptionsOf.{Item};
+ghost use Rattle.ppp_secrets.specs.declared.secrets.SecretsPair.{SecretsPair};
+ghost use Rattle.ppp_control.specs.Answers.{acks, names};
+ghost use Rattle.ppp_ipcp.specs.declared.addresses.Addresses.{Addresses};
+ghost use Rattle.ppp_ipcp.specs.declared.wish.IpWish.{IpWish};
+ghost use Rattle.ppp_ipcp.specs.Address.{judged_where};
+ghost use Rattle.ppp_ipcp.specs.MayHave.{MayHave, IsAddress, AllWith, HasWhatItMay};
 ghost use Rattle.ppp_fsm.specs.declared.fsm.Limits.{Limits};
 ghost use Rattle.ppp_control.specs.Rules.{AllLawful};
 ghost use Rattle.ppp_ipcp.specs.Rows.{fixed, named_by_peer, other_remote, repeated, answered, allowed_by_lines, others, kept, acked_by_us, opened, ended};
-ghost use Rattle.ppp_ipcp.specs.Session.{ip_rules, agreed_after};
+ghost use Rattle.ppp_ipcp.specs.Session.{IpcpCall, ip_rules, agreed_after};
+
+/// An option is acknowledged exactly where it is an address that the peer may have; the wished address is named exactly for an address
+/// that it may not have; every other option is rejected.
+pub fn judged_by_what_it_may_have()
+    ensures acked { (wish : IpWish) (allow : Allow) (secrets : SecretsPair) (i : Item) →
+        (judged_where wish allow secrets i ≡ acks) ↔ (IsAddress i × MayHave wish allow secrets i.body) }
+    ensures named { (wish : IpWish) (allow : Allow) (secrets : SecretsPair) (i : Item) (address : List ℕ) →
+        (judged_where wish allow secrets i ≡ names address) ↔ (IsAddress i × (MayHave wish allow secrets i.body → ⊥) × (wish.remote ≡ Some address)) }
+{}
+
+/// In Opened the peer has an address that it may have, where each packet was heard with these secrets and this line; or its request
+/// named none.
+pub fn the_peer_has_what_it_may()
+    ensures { (wish : IpWish) (allow : Allow) (secrets : SecretsPair) (past : List IpcpCall) (both : Addresses) →
+        AllLawful (ip_rules wish) past → AllWith allow secrets past → agreed_after wish past ≡ Some both → HasWhatItMay wish allow secrets both.remote }
+{}
 
 /// The first request, sent again by a timeout after three seconds and not before.
 pub fn asks_again()
