@@ -1,10 +1,13 @@
 -- The timer that is kept is the one that looking back gives.
 use Rattle.std.proofs.Common.{◌≡◌, ℕ, ◌+◌, ◌%◌, Bool, true, false, cond, Option, Some, None, List, [], ◌∷◌, refl, ap, sym, ◌∙◌}
-use Rattle.std.specs.Prelude.{nat_lt, is_some, ◌&&◌}
+use Rattle.std.specs.Prelude.{◌==◌, nat_lt, is_some, ◌&&◌}
 use Rattle.ppp_fsm.specs.declared.event.FsmEvent.{FsmEvent}
 use Rattle.ppp_fsm.specs.declared.acts.Act.{Act}
 use Rattle.ppp_fsm.specs.declared.acts.Act.TheVariants.{Tlu, Tld, Tls, Tlf, Irc, Zrc, Scr, Sca, Scn, Str, Sta, Scj, Ser}
-use Rattle.ppp_fsm.specs.Fsm.{acts_of}
+use Rattle.ppp_fsm.specs.Fsm.{Automaton, acts_of}
+use Rattle.ppp_fsm.specs.Opening.{layer_acts, layer_change}
+use Rattle.ppp_fsm.proofs.OpeningLemmas.{opens_by_acts}
+use Rattle.ppp_control.specs.Rules.{acts_on}
 use Rattle.ppp_control.specs.declared.negotiation.Negotiation.{Negotiation}
 use Rattle.ppp_control.specs.declared.judging.Verdict.{Verdict}
 use Rattle.ppp_control.specs.declared.judging.Verdict.TheVariants.{Ack, Nak, Reject}
@@ -14,7 +17,7 @@ use Rattle.ppp_control.specs.OwnPackets.{packet}
 use Rattle.ppp_fsm.specs.Fsm.{after}
 use Rattle.ppp_fsm.specs.declared.fsm.Limits.{Limits}
 use Rattle.ppp_packet.specs.declared.packet.Packet.{Packet}
-use Rattle.ppp_control.specs.Past.{Happened, sets_timer, onto, taken_by, taken_in, sent_in, is_timeout, automaton_after, negotiation_after, restart_after}
+use Rattle.ppp_control.specs.Past.{Happened, sets_timer, onto, taken_by, taken_in, sent_in, is_timeout, automaton_after, negotiation_after, restart_after, moved_by}
 use Rattle.ppp_control.proofs.PastLemmas.{SameSettings, acts_settings, timed_settings, Follows, acts_back, acts_fsm, follows_timed, follows_moved, same_negotiation, no_more, next_taken}
 
 either_way : {A : Type 0} (b : Bool) (x : A) → cond b x x ≡ x
@@ -137,3 +140,12 @@ pub numbered_back : (limits : Limits) (ms : ℕ) (is_lcp : Bool) (now : ℕ) (is
     → negotiation_after limits ms is_lcp (record { now = now; event = None; acts = []; packets = packet (cond is_echo 9 8) id body ∷ [] } ∷ past) ≡ record (negotiation_after limits ms is_lcp past) { next_id = next_of (negotiation_after limits ms is_lcp past).next_id }
 numbered_back limits ms is_lcp now true id body past = same_negotiation _ _ refl refl refl (sym (next_taken (taken_in past))) refl refl refl refl (timer_stays limits ms now (packet 9 id body ∷ []) past)
 numbered_back limits ms is_lcp now false id body past = same_negotiation _ _ refl refl refl (sym (next_taken (taken_in past))) refl refl refl refl (timer_stays limits ms now (packet 8 id body ∷ []) past)
+
+-- Opened is entered and left by the acts of the event, if there is one.
+same_state : (b : Bool) → [] ≡ layer_change b b
+same_state true = refl
+same_state false = refl
+
+pub opens_back : (event : Option FsmEvent) (a : Automaton) → layer_acts (acts_on a event) ≡ layer_change (a.state == 9) ((moved_by event a).state == 9)
+opens_back None a = same_state (a.state == 9)
+opens_back (Some event) a = opens_by_acts a event

@@ -1,5 +1,4 @@
-ghost use Rattle.std.specs.Prelude.{◌≡◌, nat_eq};
-ghost use Rattle.ppp_packet.specs.OptionsOf.{laid};
+ghost use Rattle.std.specs.Prelude.{◌≡◌};
 ghost use Rattle.ppp_packet.specs.OptionList.{read_options};
 ghost use Rattle.ppp_control.specs.Class.{is_selection, asks_of, heard_as, ack_heard, nak_heard, reject_heard, code_reject_heard, event_if};
 

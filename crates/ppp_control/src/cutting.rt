@@ -1,5 +1,4 @@
 ghost use Rattle.std.specs.Prelude.{◌≡◌, ◌≤◌, take, length};
-ghost use Rattle.ppp_packet.specs.PacketOf.{laid_packet};
 ghost use Rattle.ppp_control.specs.Given.{cut_packet};
 
 use ppp_base::{Frame, MOST_FRAME};

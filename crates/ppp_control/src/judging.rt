@@ -1,7 +1,7 @@
-ghost use Rattle.std.specs.Prelude.{◌≡◌, ◌≤◌, ◌+◌, nat_le, length};
+ghost use Rattle.std.specs.Prelude.{◌≡◌, ◌≤◌, ◌+◌, nat_le};
 ghost use Rattle.ppp_packet.specs.OptionsOf.{Item, item};
 ghost use Rattle.ppp_control.specs.Answers.{Judgement, answer_to};
-ghost use Rattle.ppp_control.specs.Judging.{answer_of};
+ghost use Rattle.ppp_control.specs.Verdict.{verdict_of};
 
 use crate::sorting::Sorting;
 use ppp_packet::OptionList;
@@ -40,7 +40,7 @@ pub trait Judge {
 
 /// Goes through a request once, and answers it.
 pub fn verdict_by<J: Judge>(request: &OptionList, judge: &J, naks: u8, max_failure: u8) -> Verdict
-    ensures { answer_of result ≡ answer_to (J.judgement judge.now) (nat_le max_failure naks) request.now }
+    ensures { result ≡ verdict_of (answer_to (J.judgement judge.now) (nat_le max_failure naks) request.now) }
 {
     let mut sorting = Sorting::new();
     let mut walk = request.iter();

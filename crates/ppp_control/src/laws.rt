@@ -1,6 +1,5 @@
-ghost use Rattle.std.specs.Prelude.{◌≡◌, if◌then◌else◌, ℕ, Bool, [], ◌∷◌, List, Option, Some, None};
+ghost use Rattle.std.specs.Prelude.{◌≡◌, if◌then◌else◌, ℕ, Bool, [], ◌∷◌, List, Some, None};
 ghost use Rattle.ppp_fsm.specs.declared.event.FsmEvent.{FsmEvent};
-ghost use Rattle.ppp_fsm.specs.declared.fsm.Limits.{Limits};
 ghost use Rattle.ppp_fsm.specs.Fsm.{acts_of};
 ghost use Rattle.ppp_packet.specs.declared.packet.Packet.{Packet};
 ghost use Rattle.ppp_control.specs.declared.negotiation.Negotiation.{Negotiation};

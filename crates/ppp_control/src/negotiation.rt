@@ -1,12 +1,12 @@
-ghost use Rattle.std.specs.Prelude.{◌≡◌, ◌==◌, ◌<◌, ◌≤◌, ◌+◌, ◌^◌, Some, None, [], length, option_map, if◌then◌else◌};
+ghost use Rattle.std.specs.Prelude.{◌≡◌, ◌==◌, ◌<◌, ◌≤◌, ◌+◌, ◌^◌, Some, None, [], option_map, if◌then◌else◌};
 ghost use Rattle.ppp_base.specs.declared.code.TheConstants.{ECHO_REPLY};
 ghost use Rattle.ppp_control.specs.Step.{timed, left_by, sent_by, stepped, step_sends, requested, terminated, answered, next_of};
 ghost use Rattle.ppp_control.specs.OwnPackets.{packet, request_packet, terminate_packet, verdict_packet};
 ghost use Rattle.ppp_control.specs.Given.{given, alone, by_packet, by_request};
 ghost use Rattle.ppp_control.specs.Verdict.{event_on};
-ghost use Rattle.ppp_control.specs.Class.{heard_as};
+ghost use Rattle.ppp_control.specs.Class.{heard_as, last_options};
 ghost use Rattle.ppp_control.specs.Past.{is_timeout};
-ghost use Rattle.ppp_fsm.specs.Fsm.{acts_of, after};
+ghost use Rattle.ppp_fsm.specs.Fsm.{acts_of};
 ghost use Rattle.ppp_fsm.specs.declared.event.FsmEvent.TheVariants.{Timeout};
 
 use crate::classes::{HeardAs, class};
@@ -122,6 +122,16 @@ impl Negotiation {
         ensures { result.now ≡ self.now.request }
     {
         &self.request
+    }
+
+    /// The options of our last request; none where no request was sent.
+    pub fn last_options(&self) -> OptionList
+        ensures { result ≡ last_options self.now.request }
+    {
+        match &self.request {
+            Some(request) => request.options.copy(),
+            None => OptionList::new(),
+        }
     }
 
     /// The Naks since the last Ack that we sent.

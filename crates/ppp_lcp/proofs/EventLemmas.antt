@@ -17,7 +17,7 @@ use Rattle.ppp_control.specs.Rules.{acts_on}
 use Rattle.ppp_control.specs.Start.{is_due}
 use Rattle.ppp_control.specs.Step.{next_of}
 use Rattle.ppp_control.specs.Verdict.{event_on}
-use Rattle.ppp_control.proofs.TimingLemmas.{fsm_back}
+use Rattle.ppp_control.proofs.TimingLemmas.{fsm_back, opens_back}
 use Rattle.ppp_lcp.specs.declared.lcp.Lcp.{Lcp}
 use Rattle.ppp_lcp.specs.declared.out.LcpOut.{LcpOut}
 use Rattle.ppp_lcp.specs.Magic.{cut_information}
@@ -29,15 +29,7 @@ use Rattle.ppp_lcp.specs.Object.{verdict_on}
 -- Opened is entered and left by the acts.
 pub opens_by : (l new : Lcp) (out : LcpOut) → out.acts ≡ acts_on l.core.fsm out.event → new.core.fsm ≡ moved_by out.event l.core.fsm
     → layer_acts out.acts ≡ layer_change (l.core.fsm.state == 9) (new.core.fsm.state == 9)
-opens_by l new out e f = ap layer_acts e ∙ by_event out.event l.core.fsm ∙ ap (λ (a : Automaton). layer_change (l.core.fsm.state == 9) (a.state == 9)) (sym f)
-  where
-    same : (b : Bool) → [] ≡ layer_change b b
-    same true = refl
-    same false = refl
-
-    by_event : (event : Option FsmEvent) (a : Automaton) → layer_acts (acts_on a event) ≡ layer_change (a.state == 9) ((moved_by event a).state == 9)
-    by_event None a = same (a.state == 9)
-    by_event (Some event) a = opens_by_acts a event
+opens_by l new out e f = ap layer_acts e ∙ opens_back out.event l.core.fsm ∙ ap (λ (a : Automaton). layer_change (l.core.fsm.state == 9) (a.state == 9)) (sym f)
 
 -- an event that comes with no packet
 pub left_fsm : (event : FsmEvent) (now : ℕ) (l new : Lcp) → new ≡ event_left event now l → new.core.fsm ≡ after l.core.fsm event

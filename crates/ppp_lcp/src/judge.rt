@@ -1,9 +1,7 @@
-ghost use Rattle.std.specs.Prelude.{◌≡◌, ◌≤◌, nat_le, length};
-ghost use Rattle.ppp_control.specs.Answers.{answer_to};
-ghost use Rattle.ppp_control.specs.Judging.{judgement_of, answer_of, IsShort};
-ghost use Rattle.ppp_control.specs.Verdict.{verdict_of};
+ghost use Rattle.std.specs.Prelude.{◌≡◌, ◌≤◌, length};
+ghost use Rattle.ppp_control.specs.Judging.{judgement_of, IsShort};
 ghost use Rattle.ppp_lcp.specs.Verdict.{verdict_to, verdict_where};
-ghost use Rattle.ppp_lcp.specs.Table.{octets_judged, judged_where, is_chap, is_pap, number2, number4, mru_judged, mrru_judged, authentication_judged, magic_judged, acked_if};
+ghost use Rattle.ppp_lcp.specs.Table.{octets_judged, is_chap, is_pap, number2, number4, mru_judged, mrru_judged, authentication_judged, magic_judged, acked_if};
 
 use crate::wish::LcpWish;
 use ppp_base::{LEAST_MRRU, LEAST_MRU};
@@ -140,25 +138,6 @@ impl Judge for LcpJudge<'_> {
     }
 }
 
-fn answer(
-    request: &OptionList,
-    wish: &LcpWish,
-    multilink: bool,
-    ours: u32,
-    word: u32,
-    naks: u8,
-) -> Verdict
-    ensures { answer_of result ≡ answer_to (judged_where wish.now multilink ours word) (nat_le wish.now.max_failure naks) request.now }
-{
-    let judge = LcpJudge {
-        wish,
-        multilink,
-        ours,
-        word: word.to_be_bytes(),
-    };
-    verdict_by(request, &judge, naks, wish.max_failure)
-}
-
 // The answer where multilink may have been rejected.
 pub(crate) fn verdict_where(
     request: &OptionList,
@@ -170,7 +149,13 @@ pub(crate) fn verdict_where(
 ) -> Verdict
     ensures { result ≡ verdict_where request.now wish.now multilink ours word naks }
 {
-    answer(request, wish, multilink, ours, word, naks)
+    let judge = LcpJudge {
+        wish,
+        multilink,
+        ours,
+        word: word.to_be_bytes(),
+    };
+    verdict_by(request, &judge, naks, wish.max_failure)
 }
 
 /// The answer to a peer's request, option by option (RFC 1661, section 6). `ours` is our magic number, 0 where we

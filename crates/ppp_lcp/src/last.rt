@@ -1,4 +1,4 @@
-ghost use Rattle.std.specs.Prelude.{◌≡◌, ◌≤◌, length, option_map};
+ghost use Rattle.std.specs.Prelude.{◌≡◌, ◌≤◌};
 ghost use Rattle.std.specs.Option.{option_copied};
 ghost use Rattle.ppp_control.specs.Changes.{last_body};
 ghost use Rattle.ppp_lcp.specs.Last.{number2_or, number4_or, method_named, method_in, agreed_by, mrru_pair, number2_of, discriminator_of};

@@ -1,4 +1,4 @@
-ghost use Rattle.std.specs.Prelude.{◌≡◌, ◌==◌, ◌*◌, ◌+◌, ◌^◌, ◌≤◌, length, [], ◌∷◌, true, false, ℕ, List, Some, None, if◌then◌else◌, option_map};
+ghost use Rattle.std.specs.Prelude.{◌≡◌, ◌==◌, ◌*◌, ◌+◌, ◌^◌, ◌≤◌, length, [], ◌∷◌, true, false, ℕ, List, Some, None, if◌then◌else◌};
 ghost use Rattle.ppp_base.specs.declared.mrru.TheConstants.{DEFAULT_MRU, LEAST_MRU, LEAST_MRRU, MOST_MRRU};
 ghost use Rattle.ppp_lcp.specs.Negotiating.{sends_verdict};
 ghost use Rattle.ppp_lcp.specs.Session.{is_four, is_proved_by, is_agreed};
@@ -84,7 +84,7 @@ impl Lcp {
     ghost use Rattle.ppp_fsm.specs.Opening.{layer_acts, layer_change};
     ghost use Rattle.ppp_timer.specs.Due.{has_come};
     ghost use Rattle.ppp_lcp.specs.Object.{magic_now, verdict_on, limit_of, agreed_in};
-    ghost use Rattle.ppp_lcp.specs.Negotiating.{event_left, event_told, event_out, ticked, ticked_told, lcp_step, with_packet, answering, after_request, heard_lcp, heard_told, settled, with_reply, with_loops, echoed, echo_told, echo_body, refused_by, rejecting, rejecting_told, is_failed};
+    ghost use Rattle.ppp_lcp.specs.Negotiating.{event_left, event_told, event_out, ticked, ticked_told, lcp_step, with_packet, answering, after_request, heard_lcp, heard_told, settled, with_reply, with_loops, echoed, echo_told, refused_by, rejecting, rejecting_told, is_failed};
 
     /// In Initial. `words` is the state of the generator of magic numbers.
     pub fn new(wish: LcpWish, words: u64) -> Lcp
@@ -233,11 +233,8 @@ impl Lcp {
         if !self.core.is_open() {
             return None;
         }
-        let theirs = self.core.acknowledged();
-        match self.core.request() {
-            Some(request) => Some(agreed_by(&request.options, theirs)),
-            None => Some(agreed_by(&OptionList::new(), theirs)),
-        }
+        let ours = self.core.last_options();
+        Some(agreed_by(&ours, self.core.acknowledged()))
     }
 
     // Our magic number, 0 where none is in force.

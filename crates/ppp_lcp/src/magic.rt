@@ -1,5 +1,5 @@
-ghost use Rattle.std.specs.Prelude.{◌≡◌, ◌-◌, ◌≤◌, ◌++◌, take, length};
-ghost use Rattle.std.specs.Int.{to_be_bytes, w16};
+ghost use Rattle.std.specs.Prelude.{◌≡◌, ◌-◌, ◌≤◌, ◌++◌};
+ghost use Rattle.std.specs.Int.{to_be_bytes};
 ghost use Rattle.ppp_base.specs.declared.mrru.TheConstants.{DEFAULT_MRU};
 ghost use Rattle.ppp_lcp.specs.Magic.{has_magic, cut_information};
 ghost use Rattle.ppp_lcp.specs.Ours.{names_magic};

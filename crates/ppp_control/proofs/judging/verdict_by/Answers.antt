@@ -1,6 +1,10 @@
 -- What has been sorted and what is left are the request.
-use Rattle.std.proofs.Common.{◌≤◌, List, length, arith, ap, sym, ◌∙◌, subst}
+use Rattle.std.proofs.Common.{◌≡◌, ◌≤◌, List, length, arith, refl, ap, sym, ◌∙◌, subst}
 use Rattle.ppp_packet.specs.OptionsOf.{Item, laid}
+use Rattle.ppp_control.specs.declared.judging.Verdict.{Verdict}
+use Rattle.ppp_control.specs.declared.judging.Verdict.TheVariants.{Ack, Nak, Reject}
+use Rattle.ppp_control.specs.Judging.{answer_of}
+use Rattle.ppp_control.specs.Verdict.{verdict_of}
 use Rattle.ppp_control.proofs.Sorts.{SortsOut, sorts_none, sorts_more, room_left, sorted_all}
 use Rattle.ppp_control.proofs.judging.verdict_by.Goals as goal
 
@@ -34,9 +38,15 @@ judging-preserved g c =
     let next = sorts_more judge items c.judging.sorting _ c.next.new.self _ (sym c.judged-judged.ensures.judged) at in
     subst (λ s. SortsOut judge items s c.next.new.self) (sym c.take.ensures) next
 
+-- An answer and its verdict are one.
+same : (v : Verdict) → v ≡ verdict_of (answer_of v)
+same Ack = refl
+same (Nak items) = refl
+same (Reject items) = refl
+
 pub returns : goal.returns
 returns g c =
     let judge = g.J.Judge.judgement c.args.judge.now in
     let items = c.args.request.now in
     let at = subst (λ (x : List Item). SortsOut judge items c.judging.sorting x) c.in_default.ensures.item c.judging.invariant in
-    c.verdict.ensures ∙ sorted_all judge _ items c.judging.sorting at
+    same c.verdict.result ∙ ap verdict_of (c.verdict.ensures ∙ sorted_all judge _ items c.judging.sorting at)
