@@ -1,5 +1,5 @@
 -- The event and the acts that are told, and the automaton that is left.
-use Rattle.std.proofs.Common.{◌≡◌, ℕ, Bool, true, false, cond, Option, Some, None, [], refl, ap, sym, ◌∙◌}
+use Rattle.std.proofs.Common.{◌≡◌, ℕ, Bool, true, false, cond, Some, None, [], refl, ap, sym, ◌∙◌}
 use Rattle.std.specs.Prelude.{◌==◌}
 use Rattle.ppp_fsm.specs.declared.event.FsmEvent.{FsmEvent}
 use Rattle.ppp_fsm.specs.declared.event.FsmEvent.TheVariants.{Timeout, Rca, Rcn}
@@ -16,7 +16,7 @@ use Rattle.ppp_control.specs.Rules.{acts_on}
 use Rattle.ppp_control.specs.Start.{is_due}
 use Rattle.ppp_control.specs.Step.{stepped}
 use Rattle.ppp_control.specs.Verdict.{event_on}
-use Rattle.ppp_control.proofs.TimingLemmas.{fsm_back}
+use Rattle.ppp_control.proofs.TimingLemmas.{fsm_back, opens_back}
 use Rattle.ppp_ipcp.specs.declared.ipcp.Ipcp.{Ipcp}
 use Rattle.ppp_ipcp.specs.Around.{Around}
 use Rattle.ppp_ipcp.specs.Object.{verdict_on}
@@ -25,15 +25,7 @@ use Rattle.ppp_ipcp.specs.Steps.{plain, with_packet, with_nak, with_reject, answ
 -- Opened is entered and left by the acts.
 pub opens_by : (i new : Ipcp) (out : StepOut) → out.acts ≡ acts_on i.core.fsm out.event → new.core.fsm ≡ moved_by out.event i.core.fsm
     → layer_acts out.acts ≡ layer_change (i.core.fsm.state == 9) (new.core.fsm.state == 9)
-opens_by i new out e f = ap layer_acts e ∙ by_event out.event i.core.fsm ∙ ap (λ (a : Automaton). layer_change (i.core.fsm.state == 9) (a.state == 9)) (sym f)
-  where
-    same : (b : Bool) → [] ≡ layer_change b b
-    same true = refl
-    same false = refl
-
-    by_event : (event : Option FsmEvent) (a : Automaton) → layer_acts (acts_on a event) ≡ layer_change (a.state == 9) ((moved_by event a).state == 9)
-    by_event None a = same (a.state == 9)
-    by_event (Some event) a = opens_by_acts a event
+opens_by i new out e f = ap layer_acts e ∙ opens_back out.event i.core.fsm ∙ ap (λ (a : Automaton). layer_change (i.core.fsm.state == 9) (a.state == 9)) (sym f)
 
 -- an event that comes with no packet
 pub left_fsm : (event : FsmEvent) (now : ℕ) (i new : Ipcp) → new ≡ event_left event now i → new.core.fsm ≡ after i.core.fsm event

@@ -1,5 +1,5 @@
 -- Worked sessions of IPCP, as calls with what they answer.
-use Rattle.std.specs.Prelude.{ℕ, true, false, Some, None, List, [], ◌∷◌, ◌++◌}
+use Rattle.std.specs.Prelude.{ℕ, true, false, Some, None, List, [], ◌∷◌, ◌++◌, replicate}
 use Rattle.ppp_base.specs.declared.allow.Allow.TheVariants.{Any, Pap, Chap}
 use Rattle.ppp_fsm.specs.declared.event.FsmEvent.TheVariants.{Up, Open, Timeout, RcrGood, RcrBad, Rca, Rcn, Rtr, Ruc}
 use Rattle.ppp_fsm.specs.declared.acts.Act.TheVariants.{Tlu, Tld, Tls, Tlf, Irc, Zrc, Scr, Sca, Scn, Sta, Scj}
@@ -81,6 +81,12 @@ answered =
     ∷ called_with (hears (packet 1 3 []) any) 1 (Some RcrGood) (Sca ∷ []) (packet 2 3 [] ∷ [])
     ∷ called_with (hears (packet 1 1 zeros) any) 1 (Some RcrBad) (Scn ∷ []) (packet 3 1 (ten 2) ∷ [])
     ∷ called_with (hears (packet 1 1 (ten 2)) any) 1 (Some RcrGood) (Sca ∷ []) (packet 2 1 (ten 2) ∷ [])
+    ∷ begun (ten 1)
+
+-- A packet of 134 octets, where the peer takes 128: its Code-Reject has as many.
+abbrev pub cut : List IpcpCall
+cut =
+    called_with (hears (packet 9 4 (replicate 130 1)) (around Any pair 128)) 1 (Some Ruc) (Scj ∷ []) (packet 7 2 (9 ∷ 4 ∷ 0 ∷ 134 ∷ replicate 120 1) ∷ [])
     ∷ begun (ten 1)
 
 -- Where no address is wished, each that the line allows is acknowledged, and any other and 0.0.0.0 rejected.

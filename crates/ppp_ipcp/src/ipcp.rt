@@ -147,12 +147,8 @@ impl Ipcp {
         if !self.core.is_open() {
             return None;
         }
-        let theirs = self.core.acknowledged();
-        let local = self.ours.local;
-        match self.core.request() {
-            Some(request) => Some(agreed_by(&self.wish, local, &request.options, theirs)),
-            None => Some(agreed_by(&self.wish, local, &OptionList::new(), theirs)),
-        }
+        let ours = self.core.last_options();
+        Some(agreed_by(&self.wish, self.ours.local, &ours, self.core.acknowledged()))
     }
 
     // The timer.

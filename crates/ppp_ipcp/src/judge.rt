@@ -1,7 +1,6 @@
-ghost use Rattle.std.specs.Prelude.{◌≡◌, nat_le, Some};
+ghost use Rattle.std.specs.Prelude.{◌≡◌, Some};
 ghost use Rattle.ppp_packet.specs.OptionsOf.{item};
-ghost use Rattle.ppp_control.specs.Answers.{answer_to};
-ghost use Rattle.ppp_control.specs.Judging.{judgement_of, answer_of, IsShort};
+ghost use Rattle.ppp_control.specs.Judging.{judgement_of, IsShort};
 ghost use Rattle.ppp_ipcp.specs.Address.{address_in, address_of, same_address, no_address, is_wished, may_have, wished_or_none, judged_as, judged_where};
 ghost use Rattle.ppp_ipcp.specs.Verdict.{verdict_to};
 
@@ -109,23 +108,6 @@ impl Judge for IpJudge<'_> {
     }
 }
 
-fn answer(
-    request: &OptionList,
-    wish: &IpWish,
-    allow: Allow,
-    secrets: &SecretsPair,
-    naks: u8,
-) -> Verdict
-    ensures { answer_of result ≡ answer_to (judged_where wish.now allow secrets.now) (nat_le wish.now.max_failure naks) request.now }
-{
-    let judge = IpJudge {
-        wish,
-        allow,
-        secrets,
-    };
-    verdict_by(request, &judge, naks, wish.max_failure)
-}
-
 /// The answer to a peer's request (RFC 1332, section 3.3). `naks` counts the Naks since the last Ack that we sent.
 pub fn verdict(
     request: &OptionList,
@@ -136,5 +118,10 @@ pub fn verdict(
 ) -> Verdict
     ensures { result ≡ verdict_to request.now wish.now allow secrets.now naks }
 {
-    answer(request, wish, allow, secrets, naks)
+    let judge = IpJudge {
+        wish,
+        allow,
+        secrets,
+    };
+    verdict_by(request, &judge, naks, wish.max_failure)
 }

@@ -11,7 +11,7 @@ ghost use Rattle.ppp_ipcp.specs.Address.{judged_where};
 ghost use Rattle.ppp_ipcp.specs.MayHave.{MayHave, IsAddress, AllWith, HasWhatItMay};
 ghost use Rattle.ppp_fsm.specs.declared.fsm.Limits.{Limits};
 ghost use Rattle.ppp_control.specs.Rules.{AllLawful};
-ghost use Rattle.ppp_ipcp.specs.Rows.{fixed, named_by_peer, other_remote, repeated, answered, allowed_by_lines, others, kept, acked_by_us, opened, ended};
+ghost use Rattle.ppp_ipcp.specs.Rows.{fixed, named_by_peer, other_remote, repeated, answered, cut, allowed_by_lines, others, kept, acked_by_us, opened, ended};
 ghost use Rattle.ppp_ipcp.specs.Session.{IpcpCall, ip_rules, agreed_after};
 
 /// An option is acknowledged exactly where it is an address that the peer may have; the wished address is named exactly for an address
@@ -37,7 +37,8 @@ pub fn asks_again()
 
 /// The answers to requests where one address is wished, and to codes that aren't known.
 pub fn names_the_wished_address()
-    ensures { (limits : Limits) → AllLawful (ip_rules (fixed limits)) answered }
+    ensures rows { (limits : Limits) → AllLawful (ip_rules (fixed limits)) answered }
+    ensures cut { (limits : Limits) → AllLawful (ip_rules (fixed limits)) cut }
 {}
 
 /// The answers where no address is wished, by the lines of PAP's and of CHAP's secrets.
