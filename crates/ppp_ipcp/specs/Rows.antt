@@ -128,14 +128,14 @@ kept =
 abbrev pub acked_by_us : List IpcpCall
 acked_by_us =
     called_with (hears (packet 1 5 (ten 1)) by_pap) 2 (Some RcrGood) (Sca ∷ []) (packet 2 5 (ten 1) ∷ [])
-    ∷ called_with (hears (packet 3 1 (ten 6 ++ ten 7)) any) 1 (Some Rcn) (Irc ∷ Scr ∷ []) (packet 1 2 (ten 7) ∷ [])
+    ∷ called_with (hears (packet 3 1 (ten 6 ++ ten 7)) by_pap) 1 (Some Rcn) (Irc ∷ Scr ∷ []) (packet 1 2 (ten 7) ∷ [])
     ∷ begun zeros
 
 abbrev pub opened : List IpcpCall
-opened = called_with (hears (packet 2 2 (ten 7)) any) 3 (Some Rca) (Irc ∷ Tlu ∷ []) [] ∷ acked_by_us
+opened = called_with (hears (packet 2 2 (ten 7)) by_pap) 3 (Some Rca) (Irc ∷ Tlu ∷ []) [] ∷ acked_by_us
 
 abbrev pub ended : List IpcpCall
 ended =
     called_with ticks 3004 (Some Timeout) (Tlf ∷ []) []
-    ∷ called_with (hears (packet 5 9 []) any) 4 (Some Rtr) (Tld ∷ Zrc ∷ Sta ∷ []) (packet 6 9 [] ∷ [])
+    ∷ called_with (hears (packet 5 9 []) by_pap) 4 (Some Rtr) (Tld ∷ Zrc ∷ Sta ∷ []) (packet 6 9 [] ∷ [])
     ∷ opened

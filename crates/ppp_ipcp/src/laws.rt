@@ -1,6 +1,6 @@
 //! What follows from the definitions alone: which address the peer has, and that worked sessions are lawful.
 
-ghost use Rattle.std.specs.Prelude.{◌≡◌, ◌↔◌, ℕ, Some, None, List, [], ◌∷◌};
+ghost use Rattle.std.specs.Prelude.{◌≡◌, ◌↔◌, ℕ, Some, None, List, [], ◌∷◌, false};
 ghost use Rattle.ppp_base.specs.declared.allow.Allow.{Allow};
 ghost use Rattle.ppp_packet.specs.OptionsOf.{Item};
 ghost use Rattle.ppp_secrets.specs.declared.secrets.SecretsPair.{SecretsPair};
@@ -10,9 +10,11 @@ ghost use Rattle.ppp_ipcp.specs.declared.wish.IpWish.{IpWish};
 ghost use Rattle.ppp_ipcp.specs.Address.{judged_where};
 ghost use Rattle.ppp_ipcp.specs.MayHave.{MayHave, IsAddress, AllWith, HasWhatItMay};
 ghost use Rattle.ppp_fsm.specs.declared.fsm.Limits.{Limits};
-ghost use Rattle.ppp_control.specs.Rules.{AllLawful};
-ghost use Rattle.ppp_ipcp.specs.Rows.{fixed, named_by_peer, other_remote, repeated, answered, cut, allowed_by_lines, others, kept, acked_by_us, opened, ended};
-ghost use Rattle.ppp_ipcp.specs.Session.{IpcpCall, ip_rules, agreed_after};
+ghost use Rattle.ppp_control.specs.Rules.{AllLawful, aside, event_in, ticks};
+ghost use Rattle.ppp_timer.specs.Due.{has_come};
+ghost use Rattle.ppp_base.specs.declared.allow.Allow.TheVariants.{Pap};
+ghost use Rattle.ppp_ipcp.specs.Rows.{pair, fixed, named_by_peer, other_remote, repeated, answered, cut, allowed_by_lines, others, kept, acked_by_us, opened, ended};
+ghost use Rattle.ppp_ipcp.specs.Session.{IpcpCall, ip_rules, agreed_after, deadline_after};
 
 /// An option is acknowledged exactly where it is an address that the peer may have; the wished address is named exactly for an address
 /// that it may not have; every other option is rejected.
@@ -28,6 +30,12 @@ pub fn judged_by_what_it_may_have()
 pub fn the_peer_has_what_it_may()
     ensures { (wish : IpWish) (allow : Allow) (secrets : SecretsPair) (past : List IpcpCall) (both : Addresses) →
         AllLawful (ip_rules wish) past → AllWith allow secrets past → agreed_after wish past ≡ Some both → HasWhatItMay wish allow secrets both.remote }
+{}
+
+/// Before the restart timer is due, a tick is no event; and such a tick sends nothing.
+pub fn nothing_before_the_deadline()
+    ensures { (wish : IpWish) (past : List IpcpCall) (now : ℕ) → has_come now (deadline_after wish past) ≡ false
+        → (event_in (ip_rules wish) past now ticks ≡ None) × (aside (ip_rules wish) past now ticks ≡ []) }
 {}
 
 /// The first request, sent again by a timeout after three seconds and not before.
@@ -63,4 +71,5 @@ pub fn lives()
     ensures before { (limits : Limits) → agreed_after (named_by_peer limits) acked_by_us ≡ None }
     ensures agreed { (limits : Limits) → agreed_after (named_by_peer limits) opened ≡ Some (record { local = 10 ∷ 0 ∷ 0 ∷ 7 ∷ []; remote = 10 ∷ 0 ∷ 0 ∷ 1 ∷ [] }) }
     ensures behind { (limits : Limits) → agreed_after (named_by_peer limits) ended ≡ None }
+    ensures by_one_line { AllWith (Pap 1) pair opened }
 {}

@@ -58,6 +58,15 @@ fn is_row(ipcp: &mut Ipcp, secrets: &SecretsPair, row: Row<'_>) -> Result<bool, 
     Ok(sends(&ipcp.heard(&packet, 1, secrets, &allow, 128), sent))
 }
 
+fn are_rows(ipcp: &mut Ipcp, secrets: &SecretsPair, rows: &[Row<'_>]) -> Result<bool, Fail> {
+    for row in rows {
+        if !is_row(ipcp, secrets, *row)? {
+            return Ok(false);
+        }
+    }
+    Ok(true)
+}
+
 #[test]
 fn names_the_wished_address(rt: HostRuntime) -> Result<(), Fail> {
     let secrets = pair(rt.alloc())?;
@@ -90,9 +99,7 @@ fn names_the_wished_address(rt: HostRuntime) -> Result<(), Fail> {
             &[4, 6, 0, 9, 3, 5, 10, 0, 0],
         ),
     ];
-    for row in rows {
-        assert!(rt; is_row(&mut ipcp, &secrets, row)?);
-    }
+    assert!(rt; are_rows(&mut ipcp, &secrets, &rows)?);
     Ok(())
 }
 
@@ -127,9 +134,7 @@ fn allows_by_lines(rt: HostRuntime) -> Result<(), Fail> {
             &[4, 5, 0, 10, 3, 6, 0, 0, 0, 0],
         ),
     ];
-    for row in rows {
-        assert!(rt; is_row(&mut ipcp, &secrets, row)?);
-    }
+    assert!(rt; are_rows(&mut ipcp, &secrets, &rows)?);
     Ok(())
 }
 
@@ -160,9 +165,7 @@ fn takes_other_addresses(rt: HostRuntime) -> Result<(), Fail> {
         ),
         (&[4, 2, 0, 10, 3, 6, 10, 0, 0, 9], Allow::Any, &[1, 3, 0, 4]),
     ];
-    for row in rows {
-        assert!(rt; is_row(&mut ipcp, &secrets, row)?);
-    }
+    assert!(rt; are_rows(&mut ipcp, &secrets, &rows)?);
     Ok(())
 }
 
@@ -180,9 +183,7 @@ fn keeps_our_address(rt: HostRuntime) -> Result<(), Fail> {
         (&[1, 7, 0, 4], Allow::Any, &[2, 7, 0, 4]),
         (&[8, 9, 0, 4], Allow::Any, &[7, 4, 0, 8, 8, 9, 0, 4]),
     ];
-    for row in rows {
-        assert!(rt; is_row(&mut ipcp, &secrets, row)?);
-    }
+    assert!(rt; are_rows(&mut ipcp, &secrets, &rows)?);
     assert!(rt; ipcp.agreed().is_none());
     assert_eq!(rt; ipcp.state(), 8);
     assert!(rt; is_row(&mut ipcp, &secrets, (&[2, 3, 0, 4], Allow::Any, &[]))?);

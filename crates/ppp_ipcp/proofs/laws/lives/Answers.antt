@@ -20,3 +20,6 @@ returns-clause-agreed c limits = refl
 pub returns-clause-behind : goal.returns-clause-behind
 unfolding acts_of after read_options items_of answer_to
 returns-clause-behind c limits = refl
+
+pub returns-clause-by_one_line : goal.returns-clause-by_one_line
+returns-clause-by_one_line c = ((refl, refl), ((refl, refl), ((refl, refl), (tt, (tt, tt)))))
