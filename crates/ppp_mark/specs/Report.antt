@@ -44,17 +44,6 @@ section_text (OfUnit unit) (m ∷ marks) status = word_line (codes "unit ") unit
 abbrev pub end_text : List ℕ
 end_text = codes "end\n"
 
--- a log as a report has it: whose it is, its marks, the oldest first, and its status
-pub record Section : Type 0 where
-  pub name : LogName
-  pub marks : List Mark
-  pub status : Option ℕ
-
--- the report of logs with their statuses
-abbrev pub report_text : List Section → List ℕ
-report_text [] = end_text
-report_text (s ∷ sections) = section_text s.name s.marks s.status ++ report_text sections
-
 -- The text was written whole, or a front of it before the sink failed.
 abbrev pub IsPut : ReportEnd → SinkState → SinkState → List ℕ → Type 0
 IsPut Done old new text = Writes old new text
