@@ -3,7 +3,7 @@ use Rattle.std.specs.Prelude.{◌≡◌, ℕ, ◌+◌, ◌-◌, ◌%◌, ◌≤�
 use Rattle.ppp_mp.specs.Delivered.{Gathering, Fragment, Settles, TakesOf, mark}
 use Rattle.ppp_mp.specs.Places.{place, joined_there}
 use Rattle.ppp_mp.specs.StandsFor.{KeepsNow, stopped}
-use Rattle.ppp_mp.specs.declared.slots.SlotPiece.{SlotPiece}
+use Rattle.ppp_mp.specs.declared.slot_piece.SlotPiece.{SlotPiece}
 use Rattle.ppp_mp.specs.declared.counts.PieceNow.{PieceNow}
 use Rattle.ppp_mp.specs.declared.facts.GatherFacts.{GatherFacts}
 

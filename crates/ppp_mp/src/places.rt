@@ -5,7 +5,8 @@ ghost use Rattle.ppp_mp.specs.Ring.{view_of};
 
 use crate::numbers::number_after;
 use crate::packet::Packet;
-use crate::slots::{SlotPiece, SlotView, Slots};
+use crate::slot_piece::{SlotPiece, SlotView};
+use crate::slots::Slots;
 use ppp_base::NoMemory;
 use std::alloc::Global;
 use std::marker::Model;
@@ -53,6 +54,7 @@ impl Places {
     // No piece waits, and number 0 is expected. All room is taken here.
     pub(crate) fn new(alloc: Global) -> Result<Places, NoMemory>
         ensures base { IfOk result (λ p. p.base ≡ 0) }
+        ensures looks { IfOk result (λ p. p.looks ≡ 0) }
         ensures pieces { IfOk result (λ p. (i : ℕ) → place p.pieces i ≡ None) }
     {
         let slots = Slots::new(alloc)?;
@@ -67,6 +69,7 @@ impl Places {
     // No piece waits, and number 0 is expected.
     pub(crate) fn restart(&mut self)
         ensures base { self.new.base ≡ 0 }
+        ensures looks { self.new.looks ≡ 0 }
         ensures pieces { (i : ℕ) → place self.new.pieces i ≡ None }
     {
         let _base = self.base;

@@ -10,7 +10,7 @@ use crate::facts::GatherFacts;
 use crate::given::Given;
 use crate::numbers::{HALF, ahead_of};
 use crate::places::RuleNow;
-use crate::slots::SlotPiece;
+use crate::slot_piece::SlotPiece;
 
 impl GatherFacts {
     // A piece with this number, modulo the number space, comes from a member.

@@ -2,29 +2,13 @@ ghost use Rattle.std.specs.Prelude.{◌≡◌, ◌≢◌, ℕ, ◌+◌, ◌%◌,
 ghost use Rattle.ppp_mp.specs.Header.{long_space};
 ghost use Rattle.ppp_mp.specs.Ring.{SlotsNow, kept_at, view_of, looked, IsNearAll, kept_in};
 
-use ppp_base::{Frame, NoMemory};
+use crate::slot_piece::{SlotPiece, SlotView};
+use ppp_base::NoMemory;
 use std::alloc::Global;
 use std::marker::Model;
 
 /// How many slots there are: number n stands in slot n modulo 128.
 const RING: u32 = 128;
-
-/// What is seen of a piece that waits: B, E, and how many octets it has.
-#[derive(Clone, Copy, Debug, PartialEq, Eq)]
-pub struct SlotView {
-    pub first: bool,
-    pub last: bool,
-    pub len: u16,
-}
-
-/// A piece that waits: B, E, how many octets it has, and these.
-#[derive(Debug, Drop)]
-pub struct SlotPiece {
-    pub first: bool,
-    pub last: bool,
-    pub len: u16,
-    pub octets: Frame,
-}
 
 // A piece with its number.
 #[derive(Debug, Drop)]

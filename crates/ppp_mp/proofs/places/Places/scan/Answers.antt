@@ -1,7 +1,7 @@
 use Rattle.std.proofs.Common.{◌≡◌, ◌==◌, ℕ, List, Option, Some, false, ap, sym, subst, ◌∙◌, arith}
 use Rattle.ppp_mp.specs.Places.{PlacesNow, place, IsThere, BegunThere}
-use Rattle.ppp_mp.specs.declared.slots.SlotPiece.{SlotPiece}
-use Rattle.ppp_mp.specs.declared.slots.SlotView.{SlotView}
+use Rattle.ppp_mp.specs.declared.slot_piece.SlotPiece.{SlotPiece}
+use Rattle.ppp_mp.specs.declared.slot_piece.SlotView.{SlotView}
 use Rattle.ppp_mp.proofs.PlaceLemmas.{same_bool}
 use Rattle.ppp_mp.proofs.WindowLemmas.{low_none, high_none, past_none, viewed}
 use Rattle.ppp_mp.proofs.places.Places.scan.Goals as goal
