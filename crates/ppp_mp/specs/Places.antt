@@ -115,3 +115,4 @@ pub record HasShifted (space : ℕ) (old new : PlacesNow) (count : ℕ) : Type 0
   pub pieces : (j : ℕ) → place new.pieces j ≡ place old.pieces (j + count)
   pub end : new.end ≡ old.end - count
   pub looks : new.looks ≤ old.looks + min count old.end
+  pub rose : old.looks ≤ new.looks

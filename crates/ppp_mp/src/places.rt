@@ -109,6 +109,7 @@ impl Places {
         ensures waits { result ≡ is_some (place self.old.pieces i) }
         ensures same { self.new ≡ record self.old { looks = self.new.looks } }
         ensures looks { self.new.looks ≤ self.old.looks + 1 }
+        ensures rose { self.old.looks ≤ self.new.looks }
     {
         let _base = self.base;
         i < PLACES && self.at(i).is_some()
@@ -120,6 +121,7 @@ impl Places {
         ensures view { result ≡ option_map view_of (place self.old.pieces i) }
         ensures same { self.new ≡ record self.old { looks = self.new.looks } }
         ensures looks { self.new.looks ≤ self.old.looks + 1 }
+        ensures rose { self.old.looks ≤ self.new.looks }
     {
         self.slots.at(number_after(self.base, i))
     }
@@ -130,6 +132,7 @@ impl Places {
         ensures past { (i : ℕ) → 128 ≤ i → place self.old.pieces i ≡ None }
         ensures same { self.new ≡ record self.old { looks = self.new.looks } }
         ensures looks { HasLooked self.old self.new result }
+        ensures rose { self.old.looks ≤ self.new.looks }
     {
         if 0 < self.gap {
             return self.missing(0, bound);
@@ -159,6 +162,7 @@ impl Places {
         ensures found { Found self.old.pieces bound result }
         ensures same { self.new ≡ record self.old { looks = self.new.looks } }
         ensures looks { HasMissed self.old self.new len result }
+        ensures rose { self.old.looks ≤ self.new.looks }
     {
         if bound <= len {
             return RuleNow::Rests;
@@ -176,6 +180,7 @@ impl Places {
         ensures missing { AreMissing self.old.pieces bound result }
         ensures same { self.new ≡ record self.old { looks = self.new.looks } }
         ensures looks { self.new.looks ≤ self.old.looks + min result self.old.end }
+        ensures rose { self.old.looks ≤ self.new.looks }
     {
         let stop = self.end.min(bound);
         let start = self.gap.max(1).min(stop);
@@ -235,6 +240,7 @@ impl Places {
         ensures base { self.new.base ≡ self.old.base }
         ensures end { self.new.end ≡ self.old.end }
         ensures looks { self.new.looks ≤ self.old.looks + 1 }
+        ensures rose { self.old.looks ≤ self.new.looks }
     {
         self.slots.clear(number_after(self.base, i))
     }
@@ -247,6 +253,7 @@ impl Places {
         ensures base { self.new.base ≡ self.old.base }
         ensures end { self.new.end ≡ max self.old.end (i + 1) }
         ensures looks { self.new.looks ≤ self.old.looks + 1 }
+        ensures rose { self.old.looks ≤ self.new.looks }
     {
         self.slots.put(number_after(self.base, i), piece);
         self.gap = self.gap.min(i);

@@ -1,4 +1,4 @@
-ghost use Rattle.std.specs.Prelude.{◌≡◌, ◌≢◌, ℕ, ◌+◌, ◌%◌, ◌<◌, ◌==◌, Bool, true, List, Option, None, Some, if◌then◌else◌, is_some, option_map, IfOk, slice_index_or};
+ghost use Rattle.std.specs.Prelude.{◌≡◌, ◌≢◌, ℕ, ◌+◌, ◌%◌, ◌<◌, ◌≤◌, ◌==◌, Bool, true, List, Option, None, Some, if◌then◌else◌, is_some, option_map, IfOk, slice_index_or};
 ghost use Rattle.ppp_mp.specs.Header.{long_space};
 ghost use Rattle.ppp_mp.specs.Ring.{SlotsNow, kept_at, view_of, looked, IsNearAll, kept_in};
 
@@ -56,6 +56,7 @@ impl Slots {
         ensures view { result ≡ option_map view_of (kept_at number self.old.slots) }
         ensures same { self.new.slots ≡ self.old.slots }
         ensures looks { self.new.looks ≡ looked self.old.looks }
+        ensures rose { self.old.looks ≤ self.new.looks }
     {
         self.looks = self.looks.saturating_add(1);
         seen(&self.slots[(number % RING) as usize], number)
@@ -68,6 +69,7 @@ impl Slots {
         requires near { IsNearAll long_space number self.old.slots }
         ensures kept { (other : ℕ) → kept_at other self.new.slots ≡ (if other == number then Some piece else kept_at other self.old.slots) }
         ensures looks { self.new.looks ≡ looked self.old.looks }
+        ensures rose { self.old.looks ≤ self.new.looks }
     {
         self.looks = self.looks.saturating_add(1);
         self.slots[(number % RING) as usize] = Some(Slotted { number, piece });
@@ -79,6 +81,7 @@ impl Slots {
         ensures piece { result ≡ kept_at number self.old.slots }
         ensures kept { (other : ℕ) → kept_at other self.new.slots ≡ (if other == number then None else kept_at other self.old.slots) }
         ensures looks { self.new.looks ≡ looked self.old.looks }
+        ensures rose { self.old.looks ≤ self.new.looks }
     {
         self.looks = self.looks.saturating_add(1);
         let i = (number % RING) as usize;

@@ -44,6 +44,7 @@ loop-len-preserved c =
       begun = below_more (λ i. IsThere c.args.self.now.pieces i) c.loop-len.len c.loop-len.invariant.begun (t.0, there, first, last);
       same = c.at.ensures.same ∙ ap set c.loop-len.invariant.same;
       looks = omega arith;
+      rose = let up = c.at.ensures.rose in let before = c.loop-len.invariant.rose in omega arith;
     }
 
 pub missing-requires-2-clause-begun : goal.missing-requires-2-clause-begun

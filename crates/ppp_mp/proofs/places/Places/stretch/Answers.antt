@@ -15,6 +15,7 @@ loop-i-init c = record {
   ];
   same = refl;
   looks = omega arith;
+  rose = omega arith;
 }
 
 pub returns-clause-missing : goal.returns-clause-missing
