@@ -4,7 +4,7 @@ use Rattle.std.proofs.lemmas.Bool.{cases_lt}
 use Rattle.std.proofs.lemmas.Bool.Decides.{nat_tests}
 use Rattle.std.proofs.Common.{inl, inr}
 use mathlib.Core.Bool.{beq}
-use Rattle.ppp_mp.specs.declared.slots.SlotPiece.{SlotPiece}
+use Rattle.ppp_mp.specs.declared.slot_piece.SlotPiece.{SlotPiece}
 use Rattle.ppp_mp.specs.Moves.{IsKept}
 use Rattle.ppp_mp.specs.Places.{place, joined_there, octets_there, tally}
 use Rattle.std.proofs.Math.ListN.{get_or}

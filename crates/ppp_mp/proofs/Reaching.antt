@@ -1,13 +1,13 @@
 -- Each piece that is kept has reached the bundle, and each packet that is given is made of such.
-use Rattle.std.proofs.Common.{◌≡◌, ℕ, ◌+◌, ◌-◌, ◌*◌, ◌<◌, ◌==◌, ◌++◌, zero, suc, Bool, true, false, List, [], ◌∷◌, length, None, Some, is_some, slice_get, slice_index_or, refl, sym, ap, subst, ◌∙◌, arith, inl, inr}
+use Rattle.std.proofs.Common.{◌≤◌, ◌≡◌, ℕ, ◌+◌, ◌-◌, ◌*◌, ◌<◌, ◌==◌, ◌++◌, zero, suc, Bool, true, false, List, [], ◌∷◌, length, None, Some, is_some, slice_get, slice_index_or, refl, sym, ap, subst, ◌∙◌, arith, inl, inr}
 use Rattle.std.specs.List.{AllByRecursion}
 use Rattle.std.proofs.lemmas.Bool.{cases_lt}
 use Rattle.std.proofs.lemmas.Bool.Decides.{nat_tests}
 use Rattle.std.proofs.lemmas.Option.{slice_get_within}
 use Rattle.ppp_mp.specs.Pieces.{Piece, piece_at, joined, octets_of, Run, AreInOrder}
-use Rattle.ppp_mp.specs.Delivered.{Gathering, Entry, Joins, Leaves, Comes, Delivered, Takes, Left, IsFull, leaves, mark, numbered}
+use Rattle.ppp_mp.specs.Delivered.{Fragment, Gathering, Entry, Joins, Leaves, Comes, Delivered, Takes, Left, IsFull, IsMember, leaves, mark, numbered}
 use Rattle.ppp_mp.specs.Membership.{IsLink, is_member_in}
-use Rattle.ppp_mp.specs.Reached.{Reached, Brings, Unwrapped, HasReached, CameAsPiece, octets_joined, Whole}
+use Rattle.ppp_mp.specs.Reached.{MadeOfPieces, Reached, Brings, Unwrapped, HasReached, CameAsPiece, octets_joined, Whole}
 use Rattle.ppp_mp.specs.Reached.HasReached.{nothing_yet, after_join, after_leave, brought, refused, unwrapped}
 use Rattle.ppp_mp.proofs.FullNumbers.{full_once, full_some}
 use Rattle.ppp_mp.proofs.Histories.{raised_some, delivered_once}
@@ -48,7 +48,7 @@ kept_came space mrru past reached (refused {link = link} {fragment = fragment} {
     let kept : AllByRecursion (CameAsPiece all) d.0.kept = kept_came space mrru before all h d.0 links.1 d.1 in
     let takes : Takes space mrru d.0 link fragment d.2 s = d.3 in
     elim (member_cases (slice_index_or d.0.brought (link - 1) None)) [
-      | inl in_it ↦ let yes : is_member_in link before ≡ true = member_back space mrru before d.0 link links.1 links.0 d.1 in_it in absurd (let e : false ≡ true = sym outside ∙ yes in cc)
+      | inl in_it ↦ let yes : is_member_in link before ≡ true = member_back space mrru before d.0 link links.1 links.0.0 d.1 in_it in absurd (let e : false ≡ true = sym outside ∙ yes in cc)
       | inr out ↦ subst (λ (x : Gathering). AllByRecursion (CameAsPiece all) x.kept) (sym (takes.stranger out).1) kept
     ]
 kept_came space mrru past reached (unwrapped {link = link} {packet = packet} {past = same} {reached = all} member h) = λ s links d.
@@ -98,11 +98,11 @@ in_run kept packet w i p below there = elim (cases_lt i w.others) [
       (ap (λ (q : Piece). q.first) (sym same) ∙ w.first ∙ ap (λ n. n == 0) (sym here), ap (λ (q : Piece). q.last) (sym same) ∙ w.last ∙ sym test)
 ]
 
-run_whole : (reached : List Reached) (kept : List Piece) (packet : List ℕ) → AllByRecursion (CameAsPiece reached) kept → Run kept packet → Whole reached packet
+run_whole : (reached : List Reached) (kept : List Piece) (packet : List ℕ) → AllByRecursion (CameAsPiece reached) kept → Run kept packet → MadeOfPieces reached packet
 run_whole reached kept packet all w =
     let r : Row (CameAsPiece reached) kept w.from (suc w.others) = row (CameAsPiece reached) kept w.from (suc w.others) all (run_there kept w.from w.others w.end w.begun w.ends) in
     let long : length r.pieces ≡ suc w.others = r.long in
-    inl (record {
+    record {
       pieces = r.pieces;
       came = r.meet;
       make = record {
@@ -116,14 +116,14 @@ run_whole reached kept packet all w =
             (number, is.0, is.1 ∙ ap (λ n. i + 1 == n) (sym long));
       };
       octets = w.octets ∙ r.octets;
-    })
+    }
 
-given_whole : (reached : List Reached) (kept : List Piece) (low high : ℕ) (packets : List (List ℕ)) → AllByRecursion (CameAsPiece reached) kept → AreInOrder kept low high packets → AllByRecursion (Whole reached) packets
+given_whole : (reached : List Reached) (kept : List Piece) (low high : ℕ) (packets : List (List ℕ)) → AllByRecursion (CameAsPiece reached) kept → AreInOrder kept low high packets → AllByRecursion (MadeOfPieces reached) packets
 given_whole reached kept low high [] all order = tt
 given_whole reached kept low high (packet ∷ packets) all order = (run_whole reached kept packet all order.0, given_whole reached kept (order.0.from + suc order.0.others) high packets all order.2)
 
 -- Every packet that is given is whole.
-pub delivered_made : (space mrru : ℕ) (past : List Entry) (reached : List Reached) (s : Gathering) → AllByRecursion IsLink past → HasReached space mrru past reached → Delivered space mrru past s → AllByRecursion (Whole reached) s.given
+pub delivered_made : (space mrru : ℕ) (past : List Entry) (reached : List Reached) (s : Gathering) → AllByRecursion IsLink past → HasReached space mrru past reached → Delivered space mrru past s → AllByRecursion (MadeOfPieces reached) s.given
 delivered_made space mrru past reached s links h d = given_whole reached s.kept 0 s.least s.given (kept_came space mrru past reached h s links d) (delivered_whole space mrru past s d)
 
 -- Something reaches a bundle in every history.
@@ -139,3 +139,16 @@ reached_some half mrru (Comes link fragment ∷ past) some = by_member (is_membe
         let n = full_some (2 * half) half d.0.least fragment.field refl some d.2 in
         (Brings link (numbered n.0 fragment) ∷ t.0, brought d.0 n.0 e d.1 n.1 t.1)
     by_member false e t = (t.0, refused e t.1)
+
+-- A packet that is made of pieces that came is whole.
+whole_made : (reached : List Reached) (packets : List (List ℕ)) → AllByRecursion (MadeOfPieces reached) packets → AllByRecursion (Whole reached) packets
+whole_made reached [] all = tt
+whole_made reached (packet ∷ packets) all = (inl all.0, whole_made reached packets all.1)
+
+pub delivered_reached : (space mrru : ℕ) (past : List Entry) (reached : List Reached) (s : Gathering) → AllByRecursion IsLink past → HasReached space mrru past reached → Delivered space mrru past s → AllByRecursion (Whole reached) s.given
+delivered_reached space mrru past reached s links h d = whole_made reached s.given (delivered_made space mrru past reached s links h d)
+
+-- A piece of a member has reached the bundle.
+pub reached_more : (space mrru link number : ℕ) (fragment : Fragment) (past : List Entry) (reached : List Reached) (s : Gathering) → AllByRecursion IsLink past → 1 ≤ link → Delivered space mrru past s → IsMember s link
+    → IsFull space s.least fragment.field number → HasReached space mrru past reached → HasReached space mrru (Comes link fragment ∷ past) (Brings link (numbered number fragment) ∷ reached)
+reached_more space mrru link number fragment past reached s links some d member full h = brought s number (member_back space mrru past s link links some d member) d full h

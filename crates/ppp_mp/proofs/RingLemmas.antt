@@ -5,7 +5,7 @@ use Rattle.std.proofs.lemmas.List.{get_or-set_other, get_or-set_same}
 use Rattle.std.proofs.lemmas.Bool.Decides.{nat_tests}
 use Rattle.ppp_mp.specs.Header.{long_space}
 use Rattle.ppp_mp.specs.Ring.{kept_at, kept_in, view_of, InRing, AreNear, IsNearAll}
-use Rattle.ppp_mp.specs.declared.slots.SlotPiece.{SlotPiece}
+use Rattle.ppp_mp.specs.declared.slot_piece.SlotPiece.{SlotPiece}
 use Rattle.ppp_mp.specs.declared.slots.Slotted.{Slotted}
 
 not_this : (slot : Slotted) (number : ℕ) (o : Option SlotPiece) → nat_eq slot.number number ≡ false → cond (nat_eq slot.number number) (Some slot.piece) o ≡ o

@@ -9,7 +9,7 @@ use Rattle.ppp_mp.specs.Places.{place, rule_at, goes_on_there, Scanned, BegunThe
 use Rattle.ppp_mp.specs.Moves.{IsMoved}
 use Rattle.ppp_mp.specs.StandsFor.{KeepsNow, waiting, stopped, counted}
 use Rattle.ppp_mp.specs.Header.{long_space}
-use Rattle.ppp_mp.specs.declared.slots.SlotPiece.{SlotPiece}
+use Rattle.ppp_mp.specs.declared.slot_piece.SlotPiece.{SlotPiece}
 use Rattle.ppp_mp.specs.declared.places.RuleNow.{RuleNow}
 use Rattle.ppp_mp.specs.declared.places.RuleNow.TheVariants.{Rests, Misses, Loses, Completes}
 use Rattle.ppp_mp.specs.declared.facts.GatherFacts.{GatherFacts}

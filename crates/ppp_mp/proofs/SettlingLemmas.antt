@@ -8,7 +8,7 @@ use Rattle.ppp_mp.specs.Delivered.{Gathering, Rule, Rules, AtRest, loses, comple
 use Rattle.ppp_mp.specs.Places.{place, AreMissing, Scanned, joined_there, tally, waits, ends, rule_at, goes_on_there}
 use Rattle.ppp_mp.specs.Moves.{IsMoved, IsKept, HasCompleted, HasSettled, Holds}
 use Rattle.ppp_mp.specs.StandsFor.{waiting, KeepsNow, stopped, counted, with_looks}
-use Rattle.ppp_mp.specs.declared.slots.SlotPiece.{SlotPiece}
+use Rattle.ppp_mp.specs.declared.slot_piece.SlotPiece.{SlotPiece}
 use Rattle.ppp_mp.specs.declared.places.RuleNow.{RuleNow}
 use Rattle.ppp_mp.specs.declared.places.RuleNow.TheVariants.{Rests, Loses, Completes}
 use Rattle.ppp_mp.specs.declared.facts.GatherFacts.{GatherFacts}

@@ -11,7 +11,7 @@ use Rattle.ppp_mp.specs.Places.{place}
 use Rattle.ppp_mp.specs.Moves.{HasTaken, HasSettledNow, HasSettled, IsMoved, IsKept, arrived}
 use Rattle.ppp_mp.specs.StandsFor.{KeepsNow, stopped, waiting, counted, overs_of}
 use Rattle.ppp_mp.specs.Header.{long_space}
-use Rattle.ppp_mp.specs.declared.slots.SlotPiece.{SlotPiece}
+use Rattle.ppp_mp.specs.declared.slot_piece.SlotPiece.{SlotPiece}
 use Rattle.ppp_mp.specs.declared.facts.GatherFacts.{GatherFacts}
 use Rattle.ppp_mp.specs.declared.counts.GatherCounts.{GatherCounts}
 use Rattle.ppp_mp.specs.declared.counts.PieceNow.TheVariants.{Kept, Old, Doubled}

@@ -8,8 +8,8 @@ use Rattle.std.proofs.lemmas.Bool.Decides.{nat_tests}
 use Rattle.ppp_mp.specs.Header.{long_space}
 use Rattle.ppp_mp.specs.Ring.{kept_at, view_of, IsNearAll}
 use Rattle.ppp_mp.specs.Places.{place, pieces_from, IsWindow, joined_there, octets_there}
-use Rattle.ppp_mp.specs.declared.slots.SlotPiece.{SlotPiece}
-use Rattle.ppp_mp.specs.declared.slots.SlotView.{SlotView}
+use Rattle.ppp_mp.specs.declared.slot_piece.SlotPiece.{SlotPiece}
+use Rattle.ppp_mp.specs.declared.slot_piece.SlotView.{SlotView}
 use Rattle.ppp_mp.specs.declared.slots.Slotted.{Slotted}
 
 pub pieces_at : (base i : ℕ) (slots : List (Option Slotted)) → i < 128 → place (pieces_from long_space base slots) i ≡ kept_at ((base + i) % long_space) slots

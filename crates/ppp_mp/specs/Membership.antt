@@ -9,8 +9,8 @@ is_member_in link (Joins other ∷ past) = if other == link then true else is_me
 is_member_in link (Leaves other ∷ past) = if other == link then false else is_member_in link past
 is_member_in link (Comes other fragment ∷ past) = is_member_in link past
 
--- links are numbered from 1
+-- links are numbered from 1 to 16
 abbrev pub IsLink : Entry → Type 0
-IsLink (Joins link) = 1 ≤ link
-IsLink (Leaves link) = 1 ≤ link
-IsLink (Comes link fragment) = 1 ≤ link
+IsLink (Joins link) = (1 ≤ link) × (link ≤ 16)
+IsLink (Leaves link) = (1 ≤ link) × (link ≤ 16)
+IsLink (Comes link fragment) = (1 ≤ link) × (link ≤ 16)

@@ -3,7 +3,7 @@ use Rattle.std.specs.Prelude.{◌≡◌, ℕ, ◌+◌, ◌-◌, ◌%◌, ◌≤�
 use Rattle.ppp_mp.specs.Delivered.{Gathering, Fragment, Settles, TakesOf, mark}
 use Rattle.ppp_mp.specs.Places.{place, joined_there}
 use Rattle.ppp_mp.specs.StandsFor.{KeepsNow, stopped}
-use Rattle.ppp_mp.specs.declared.slots.SlotPiece.{SlotPiece}
+use Rattle.ppp_mp.specs.declared.slot_piece.SlotPiece.{SlotPiece}
 use Rattle.ppp_mp.specs.declared.counts.PieceNow.{PieceNow}
 use Rattle.ppp_mp.specs.declared.facts.GatherFacts.{GatherFacts}
 
@@ -14,6 +14,7 @@ pub record IsMoved (space : ℕ) (old new : GatherFacts) (count : ℕ) : Type 0 
   pub places : (i : ℕ) → place new.places.pieces i ≡ place old.places.pieces (i + count)
   pub end : new.places.end ≡ old.places.end - count
   pub looks : new.places.looks ≤ old.places.looks + min count old.places.end
+  pub rose : old.places.looks ≤ new.places.looks
   pub overs : new.overs ≡ map (option_map (λ n. n - count)) old.overs
 
 -- A piece begins to wait at a place, where none does.

@@ -2,7 +2,7 @@
 use Rattle.std.specs.Prelude.{◌≡◌, ◌≢◌, ◌<◌, ◌≤◌, ◌==◌, max, min, map, nat_lt, not, if◌then◌else◌, Bool, true, false, ℕ, ◌+◌, ◌-◌, ◌*◌, ◌%◌, zero, suc, List, [], ◌++◌, Option, None, Some, slice_index_or}
 use Rattle.std.specs.List.{range_with_len}
 use Rattle.ppp_mp.specs.Ring.{kept_at}
-use Rattle.ppp_mp.specs.declared.slots.SlotPiece.{SlotPiece}
+use Rattle.ppp_mp.specs.declared.slot_piece.SlotPiece.{SlotPiece}
 use Rattle.ppp_mp.specs.declared.slots.Slotted.{Slotted}
 use Rattle.ppp_mp.specs.declared.places.RuleNow.{RuleNow}
 use Rattle.ppp_mp.specs.declared.places.RuleNow.TheVariants.{Rests, Misses, Loses, Completes}
@@ -65,11 +65,13 @@ pub record Scanned (places : List (Option SlotPiece)) (bound : ℕ) (rule : Rule
   pub is : rule_at bound len (place places len) ≡ rule
   pub rests : rule ≡ Rests → place places len ≡ None
 
--- The first so many places are empty, and their numbers are below the bound.
+-- The first so many places are empty, and their numbers are below the bound. They are all that are missing in front: a
+-- piece waits behind them, or the bound doesn't reach further.
 pub record AreMissing (places : List (Option SlotPiece)) (bound count : ℕ) : Type 0 where
   pub some : 0 < count
   pub below : count ≤ bound
   pub none : (i : ℕ) → i < count → place places i ≡ None
+  pub whole : count < bound → place places count ≢ None
 
 -- A missing stretch at the front is lost at once. Else one rule applies, or none.
 abbrev pub Found : (places : List (Option SlotPiece)) (bound : ℕ) → RuleNow → Type 0
@@ -113,3 +115,4 @@ pub record HasShifted (space : ℕ) (old new : PlacesNow) (count : ℕ) : Type 0
   pub pieces : (j : ℕ) → place new.pieces j ≡ place old.pieces (j + count)
   pub end : new.end ≡ old.end - count
   pub looks : new.looks ≤ old.looks + min count old.end
+  pub rose : old.looks ≤ new.looks

@@ -1,8 +1,8 @@
 -- The slots of waiting pieces: which numbers are kept, whatever slot each stands in. Numbers are full numbers modulo the
 -- number space.
 use Rattle.std.specs.Prelude.{◌≡◌, ◌≢◌, ◌⊎◌, ℕ, ◌+◌, ◌-◌, ◌%◌, ◌<◌, ◌==◌, ⊤, min, if◌then◌else◌, List, [], ◌∷◌, Option, None, Some}
-use Rattle.ppp_mp.specs.declared.slots.SlotPiece.{SlotPiece}
-use Rattle.ppp_mp.specs.declared.slots.SlotView.{SlotView}
+use Rattle.ppp_mp.specs.declared.slot_piece.SlotPiece.{SlotPiece}
+use Rattle.ppp_mp.specs.declared.slot_piece.SlotView.{SlotView}
 use Rattle.ppp_mp.specs.declared.slots.Slotted.{Slotted}
 
 pub record SlotsNow : Type 0 where

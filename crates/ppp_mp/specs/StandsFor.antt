@@ -3,7 +3,7 @@ use Rattle.std.specs.Prelude.{◌≡◌, ℕ, ◌+◌, ◌-◌, ◌%◌, ◌^◌
 use Rattle.ppp_mp.specs.Pieces.{Piece, piece_at}
 use Rattle.ppp_mp.specs.Delivered.{Gathering, Fragment, Entry, Comes, Delivered, Takes}
 use Rattle.ppp_mp.specs.Places.{place}
-use Rattle.ppp_mp.specs.declared.slots.SlotPiece.{SlotPiece}
+use Rattle.ppp_mp.specs.declared.slot_piece.SlotPiece.{SlotPiece}
 use Rattle.ppp_mp.specs.declared.counts.GatherCounts.{GatherCounts}
 use Rattle.ppp_mp.specs.declared.counts.PieceNow.{PieceNow}
 use Rattle.ppp_mp.specs.declared.facts.GatherFacts.{GatherFacts}

@@ -11,7 +11,7 @@ use crate::counts::{GatherCounts, PieceNow};
 use crate::facts::GatherFacts;
 use crate::given::Given;
 use crate::places::Places;
-use crate::slots::SlotPiece;
+use crate::slot_piece::SlotPiece;
 use ppp_base::{Frame, LinkId, NoMemory};
 use std::alloc::Global;
 use std::marker::Model;
@@ -45,6 +45,7 @@ impl Gather {
         ensures stands { IfOk result (λ g. StandsFor long_space g [] (nothing long_space)) }
         ensures mrru { IfOk result (λ g. g.mrru ≡ mrru) }
         ensures members { IfOk result (λ g. members_of g ≡ replicate 16 false) }
+        ensures looks { IfOk result (λ g. g.places.looks ≡ 0) }
     {
         match Places::new(alloc) {
             Ok(places) => Ok(Gather {
@@ -65,6 +66,7 @@ impl Gather {
         ensures stands { StandsFor long_space self.new [] (nothing long_space) }
         ensures mrru { self.new.mrru ≡ mrru }
         ensures members { members_of self.new ≡ replicate 16 false }
+        ensures looks { self.new.places.looks ≡ 0 }
     {
         self.facts.mrru = mrru;
         self.facts.places.restart();
@@ -77,6 +79,7 @@ impl Gather {
     pub fn join(&mut self, link: LinkId)
         ensures mrru { self.new.mrru ≡ self.old.mrru }
         ensures members { members_of self.new ≡ slice_set (members_of self.old) (link - 1) true }
+        ensures looks { self.new.places.looks ≡ self.old.places.looks }
         ensures same { IsJoined self.old link → self.new ≡ self.old }
         ensures stands { (past : List Entry) (s : Gathering) → StandsFor long_space self.old past s → Adds long_space self.new past s (Joins link) [] }
     {
@@ -111,10 +114,10 @@ impl Gather {
         ensures mrru { self.new.mrru ≡ self.old.mrru }
         ensures members { members_of self.new ≡ members_of self.old }
         ensures stranger { (result ≡ PieceNow.Stranger) ↔ ¬ (IsJoined self.old from) }
-        ensures bad_header { (result ≡ PieceNow.BadHeader) ↔ (IsJoined self.old from × (length information.now < 4)) }
+        ensures bad_header { (result ≡ PieceNow.BadHeader) ↔ (IsJoined self.old from × (length information.now < long_octets)) }
         ensures refused { (result ≡ PieceNow.Stranger) ⊎ (result ≡ PieceNow.BadHeader) → (self.new ≡ with_looks 0 self.old) × (given.new ≡ []) }
         ensures looks { self.new.places.looks ≤ 1024 }
-        ensures stands { (past : List Entry) (s : Gathering) → StandsFor long_space self.old past s → 4 ≤ length information.now
+        ensures stands { (past : List Entry) (s : Gathering) → StandsFor long_space self.old past s → long_octets ≤ length information.now
             → AddsPiece long_space self.new past s from (fragment_of long_space long_octets information.now) result given.new }
         ensures whole { (past : List Entry) (s : Gathering) → StandsFor long_space self.new past s → AreInOrder s.kept 0 s.least s.given }
     {

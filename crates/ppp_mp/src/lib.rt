@@ -9,7 +9,8 @@
 //!   end what is given is a subsequence of what was sent.
 //!
 //! How a packet is cut stands in `specs/Cut.antt`, which packets are given in `specs/Delivered.antt`, over the whole list
-//! of pieces, joins and leaves, and both ends together in `specs/Schedule.antt`. No call but `Gather::new` and `Given::new` takes memory.
+//! of pieces, joins and leaves, and both ends together in `specs/Schedule.antt`. No call but `Gather::new`, `Given::new` and `Slots::new`
+//! takes memory.
 #![tactic(auto)]
 
 mod counts;
@@ -25,6 +26,7 @@ mod packet;
 mod places;
 mod sending;
 mod settling;
+mod slot_piece;
 mod slots;
 #[cfg(test)]
 mod tests;
@@ -37,4 +39,5 @@ pub use given::Given;
 pub use members::{MemberView, Members};
 pub use packet::MOST_PACKET;
 pub use sending::Sending;
-pub use slots::{SlotPiece, SlotView, Slots};
+pub use slot_piece::{SlotPiece, SlotView};
+pub use slots::Slots;

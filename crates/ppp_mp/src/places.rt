@@ -5,7 +5,8 @@ ghost use Rattle.ppp_mp.specs.Ring.{view_of};
 
 use crate::numbers::number_after;
 use crate::packet::Packet;
-use crate::slots::{SlotPiece, SlotView, Slots};
+use crate::slot_piece::{SlotPiece, SlotView};
+use crate::slots::Slots;
 use ppp_base::NoMemory;
 use std::alloc::Global;
 use std::marker::Model;
@@ -53,6 +54,7 @@ impl Places {
     // No piece waits, and number 0 is expected. All room is taken here.
     pub(crate) fn new(alloc: Global) -> Result<Places, NoMemory>
         ensures base { IfOk result (λ p. p.base ≡ 0) }
+        ensures looks { IfOk result (λ p. p.looks ≡ 0) }
         ensures pieces { IfOk result (λ p. (i : ℕ) → place p.pieces i ≡ None) }
     {
         let slots = Slots::new(alloc)?;
@@ -67,6 +69,7 @@ impl Places {
     // No piece waits, and number 0 is expected.
     pub(crate) fn restart(&mut self)
         ensures base { self.new.base ≡ 0 }
+        ensures looks { self.new.looks ≡ 0 }
         ensures pieces { (i : ℕ) → place self.new.pieces i ≡ None }
     {
         let _base = self.base;
@@ -106,6 +109,7 @@ impl Places {
         ensures waits { result ≡ is_some (place self.old.pieces i) }
         ensures same { self.new ≡ record self.old { looks = self.new.looks } }
         ensures looks { self.new.looks ≤ self.old.looks + 1 }
+        ensures rose { self.old.looks ≤ self.new.looks }
     {
         let _base = self.base;
         i < PLACES && self.at(i).is_some()
@@ -117,6 +121,7 @@ impl Places {
         ensures view { result ≡ option_map view_of (place self.old.pieces i) }
         ensures same { self.new ≡ record self.old { looks = self.new.looks } }
         ensures looks { self.new.looks ≤ self.old.looks + 1 }
+        ensures rose { self.old.looks ≤ self.new.looks }
     {
         self.slots.at(number_after(self.base, i))
     }
@@ -127,6 +132,7 @@ impl Places {
         ensures past { (i : ℕ) → 128 ≤ i → place self.old.pieces i ≡ None }
         ensures same { self.new ≡ record self.old { looks = self.new.looks } }
         ensures looks { HasLooked self.old self.new result }
+        ensures rose { self.old.looks ≤ self.new.looks }
     {
         if 0 < self.gap {
             return self.missing(0, bound);
@@ -156,6 +162,7 @@ impl Places {
         ensures found { Found self.old.pieces bound result }
         ensures same { self.new ≡ record self.old { looks = self.new.looks } }
         ensures looks { HasMissed self.old self.new len result }
+        ensures rose { self.old.looks ≤ self.new.looks }
     {
         if bound <= len {
             return RuleNow::Rests;
@@ -173,6 +180,7 @@ impl Places {
         ensures missing { AreMissing self.old.pieces bound result }
         ensures same { self.new ≡ record self.old { looks = self.new.looks } }
         ensures looks { self.new.looks ≤ self.old.looks + min result self.old.end }
+        ensures rose { self.old.looks ≤ self.new.looks }
     {
         let stop = self.end.min(bound);
         let start = self.gap.max(1).min(stop);
@@ -232,6 +240,7 @@ impl Places {
         ensures base { self.new.base ≡ self.old.base }
         ensures end { self.new.end ≡ self.old.end }
         ensures looks { self.new.looks ≤ self.old.looks + 1 }
+        ensures rose { self.old.looks ≤ self.new.looks }
     {
         self.slots.clear(number_after(self.base, i))
     }
@@ -244,6 +253,7 @@ impl Places {
         ensures base { self.new.base ≡ self.old.base }
         ensures end { self.new.end ≡ max self.old.end (i + 1) }
         ensures looks { self.new.looks ≤ self.old.looks + 1 }
+        ensures rose { self.old.looks ≤ self.new.looks }
     {
         self.slots.put(number_after(self.base, i), piece);
         self.gap = self.gap.min(i);

@@ -10,7 +10,7 @@ use crate::facts::GatherFacts;
 use crate::given::Given;
 use crate::numbers::{HALF, ahead_of};
 use crate::places::RuleNow;
-use crate::slots::SlotPiece;
+use crate::slot_piece::SlotPiece;
 
 impl GatherFacts {
     // A piece with this number, modulo the number space, comes from a member.
@@ -30,6 +30,7 @@ impl GatherFacts {
         ensures members { members_of self.new ≡ members_of self.old }
         ensures rest { ends (place self.new.places.pieces 0) ≡ false }
         ensures looks { self.new.places.looks ≤ self.old.places.looks + 1024 }
+        ensures rose { self.old.places.looks ≤ self.new.places.looks }
         ensures other { (result ≢ PieceNow.Stranger) × (result ≢ PieceNow.BadHeader) }
         ensures takes { (s : Gathering) → KeepsNow long_space self.old s → AtRest self.old.mrru (mark s) s
             → HasTaken long_space self.old.mrru s (at + 1) (arrived field piece) result self.new given.new }
@@ -104,6 +105,7 @@ impl GatherFacts {
         ensures counts { self.new.counts ≡ self.old.counts }
         ensures end { self.new.places.end ≤ max self.old.places.end (i + 1) }
         ensures looks { self.new.places.looks ≤ self.old.places.looks + 2 }
+        ensures rose { self.old.places.looks ≤ self.new.places.looks }
     {
         if !self.waits(i) {
             self.places.put(i, piece);
@@ -125,6 +127,7 @@ impl GatherFacts {
         ensures waits { result ≡ is_some (place self.old.places.pieces i) }
         ensures same { self.new ≡ with_looks self.new.places.looks self.old }
         ensures looks { self.new.places.looks ≤ self.old.places.looks + 1 }
+        ensures rose { self.old.places.looks ≤ self.new.places.looks }
     {
         self.places.waits(i)
     }
@@ -135,6 +138,7 @@ impl GatherFacts {
         ensures past { (i : ℕ) → 128 ≤ i → place self.new.places.pieces i ≡ None }
         ensures same { self.new ≡ with_looks self.new.places.looks self.old }
         ensures looks { HasLooked self.old.places self.new.places result }
+        ensures rose { self.old.places.looks ≤ self.new.places.looks }
     {
         self.places.scan(bound)
     }
@@ -154,6 +158,7 @@ impl GatherFacts {
         ensures members { members_of self.new ≡ members_of self.old }
         ensures rest { ends (place self.new.places.pieces 0) ≡ false }
         ensures looks { self.new.places.looks + 2 * self.new.places.end ≤ self.old.places.looks + 3 * self.old.places.end + 1 }
+        ensures rose { self.old.places.looks ≤ self.new.places.looks }
         ensures settled { HasSettledNow long_space self.old self.new given.old given.new }
     {
         let bound = self.bound();
@@ -185,6 +190,7 @@ impl GatherFacts {
         ensures room { length given.new + tally ends self.new.places.pieces 128 ≤ length given.old + tally ends self.old.places.pieces 128 }
         ensures rest { ends (place self.new.places.pieces 0) ≡ false }
         ensures looks { self.new.places.looks + 2 * self.new.places.end ≤ self.old.places.looks + 3 * self.old.places.end + 1 }
+        ensures rose { self.old.places.looks ≤ self.new.places.looks }
         ensures settled { HasSettled long_space bound self.old self.new given.old given.new }
     {
         let mut left = bound;

@@ -1,30 +1,14 @@
-ghost use Rattle.std.specs.Prelude.{◌≡◌, ◌≢◌, ℕ, ◌+◌, ◌%◌, ◌<◌, ◌==◌, Bool, true, List, Option, None, Some, if◌then◌else◌, is_some, option_map, IfOk, slice_index_or};
+ghost use Rattle.std.specs.Prelude.{◌≡◌, ◌≢◌, ℕ, ◌+◌, ◌%◌, ◌<◌, ◌≤◌, ◌==◌, Bool, true, List, Option, None, Some, if◌then◌else◌, is_some, option_map, IfOk, slice_index_or};
 ghost use Rattle.ppp_mp.specs.Header.{long_space};
 ghost use Rattle.ppp_mp.specs.Ring.{SlotsNow, kept_at, view_of, looked, IsNearAll, kept_in};
 
-use ppp_base::{Frame, NoMemory};
+use crate::slot_piece::{SlotPiece, SlotView};
+use ppp_base::NoMemory;
 use std::alloc::Global;
 use std::marker::Model;
 
 /// How many slots there are: number n stands in slot n modulo 128.
 const RING: u32 = 128;
-
-/// What is seen of a piece that waits: B, E, and how many octets it has.
-#[derive(Clone, Copy, Debug, PartialEq, Eq)]
-pub struct SlotView {
-    pub first: bool,
-    pub last: bool,
-    pub len: u16,
-}
-
-/// A piece that waits: B, E, how many octets it has, and these.
-#[derive(Debug, Drop)]
-pub struct SlotPiece {
-    pub first: bool,
-    pub last: bool,
-    pub len: u16,
-    pub octets: Frame,
-}
 
 // A piece with its number.
 #[derive(Debug, Drop)]
@@ -72,6 +56,7 @@ impl Slots {
         ensures view { result ≡ option_map view_of (kept_at number self.old.slots) }
         ensures same { self.new.slots ≡ self.old.slots }
         ensures looks { self.new.looks ≡ looked self.old.looks }
+        ensures rose { self.old.looks ≤ self.new.looks }
     {
         self.looks = self.looks.saturating_add(1);
         seen(&self.slots[(number % RING) as usize], number)
@@ -84,6 +69,7 @@ impl Slots {
         requires near { IsNearAll long_space number self.old.slots }
         ensures kept { (other : ℕ) → kept_at other self.new.slots ≡ (if other == number then Some piece else kept_at other self.old.slots) }
         ensures looks { self.new.looks ≡ looked self.old.looks }
+        ensures rose { self.old.looks ≤ self.new.looks }
     {
         self.looks = self.looks.saturating_add(1);
         self.slots[(number % RING) as usize] = Some(Slotted { number, piece });
@@ -95,6 +81,7 @@ impl Slots {
         ensures piece { result ≡ kept_at number self.old.slots }
         ensures kept { (other : ℕ) → kept_at other self.new.slots ≡ (if other == number then None else kept_at other self.old.slots) }
         ensures looks { self.new.looks ≡ looked self.old.looks }
+        ensures rose { self.old.looks ≤ self.new.looks }
     {
         self.looks = self.looks.saturating_add(1);
         let i = (number % RING) as usize;

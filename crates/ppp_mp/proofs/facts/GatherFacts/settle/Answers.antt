@@ -7,7 +7,7 @@ use Rattle.ppp_mp.proofs.SettlingLemmas.{settling_begins, settling_looked, settl
 use Rattle.ppp_mp.proofs.facts.GatherFacts.settle.Goals as goal
 
 pub rules-init : goal.rules-init
-rules-init c = record { settling = settling_begins _ _ _; looks = omega arith; members = refl }
+rules-init c = record { settling = settling_begins _ _ _; looks = omega arith; rose = omega arith; members = refl }
 
 pub returns-in-Rests-clause-room : goal.returns-in-Rests-clause-room
 returns-in-Rests-clause-room c = let t = settling_looked c.args.self.now c.args.given.now c.args.bound c.rules.self c.scan.new.self c.rules.given c.rules.left c.scan.new.self.places.looks c.in-Rests.ensures.same c.rules.invariant.settling in t.room
@@ -49,6 +49,7 @@ rules-preserved-in-Loses c =
     record {
       settling = settling_loses c.args.self.now c.args.given.now c.args.bound c.scan.new.self c.rules.given c.rules.left c.lose-in-Loses.new.self c.in-Loses.count c.saturating_sub-left-in-Loses.result so_far c.in-Loses.ensures.found c.in-Loses.ensures.past c.lose-in-Loses.ensures.moved c.lose-in-Loses.ensures.counts c.saturating_sub-left-in-Loses.ensures;
       looks = omega arith;
+      rose = let up = c.in-Loses.ensures.rose in let on = c.lose-in-Loses.ensures.moved.rose in let started = c.rules.invariant.rose in omega arith;
       members = ap (map is_some) c.lose-in-Loses.ensures.moved.overs ∙ moved_same c.scan.new.self.overs _ ∙ ap members_of c.in-Loses.ensures.same ∙ c.rules.invariant.members;
     }
 
@@ -69,6 +70,7 @@ rules-preserved-in-Misses c =
     record {
       settling = settling_misses c.args.self.now c.args.given.now c.args.bound c.scan.new.self c.rules.given c.rules.left c.lose.new.self c.in-Misses.count c.saturating_sub-left.result so_far c.in-Misses.ensures.found c.in-Misses.ensures.past c.lose.ensures.moved c.lose.ensures.counts c.saturating_sub-left.ensures;
       looks = omega arith;
+      rose = let up = c.in-Misses.ensures.rose in let on = c.lose.ensures.moved.rose in let started = c.rules.invariant.rose in omega arith;
       members = ap (map is_some) c.lose.ensures.moved.overs ∙ moved_same c.scan.new.self.overs _ ∙ ap members_of c.in-Misses.ensures.same ∙ c.rules.invariant.members;
     }
 
@@ -97,5 +99,6 @@ rules-preserved c =
     record {
       settling = settling_completes c.args.self.now c.args.given.now c.args.bound c.scan.new.self c.rules.given c.rules.left c.complete.new.self c.complete.new.given c.in-Completes.count c.saturating_sub-left-in-Completes.result so_far c.in-Completes.ensures.found c.in-Completes.ensures.past c.complete.ensures.moved c.complete.ensures.packet c.saturating_sub-left-in-Completes.ensures;
       looks = omega arith;
+      rose = let up = c.in-Completes.ensures.rose in let on = c.complete.ensures.moved.rose in let started = c.rules.invariant.rose in omega arith;
       members = ap (map is_some) c.complete.ensures.moved.overs ∙ moved_same c.scan.new.self.overs _ ∙ ap members_of c.in-Completes.ensures.same ∙ c.rules.invariant.members;
     }

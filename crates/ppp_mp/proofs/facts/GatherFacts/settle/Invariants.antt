@@ -8,6 +8,7 @@ abbrev pub invariant-rules : goal.invariant-rules
 invariant-rules l = record {
   settling : Settling l.initial.self l.initial.given l.bound l.self l.given l.left;
   looks : l.self.places.looks + 3 * l.self.places.end ≤ l.initial.self.places.looks + 3 * l.initial.self.places.end;
+  rose : l.initial.self.places.looks ≤ l.self.places.looks;
   members : members_of l.self ≡ members_of l.initial.self;
 }
 

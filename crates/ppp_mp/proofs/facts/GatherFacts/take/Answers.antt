@@ -5,7 +5,7 @@ use Rattle.ppp_mp.specs.Places.{place}
 use Rattle.ppp_mp.specs.Moves.{HasSettledNow, HasSettled, HasTaken, IsKept, arrived}
 use Rattle.ppp_mp.specs.StandsFor.{KeepsNow, stopped, members_of}
 use Rattle.ppp_mp.specs.declared.facts.GatherFacts.{GatherFacts}
-use Rattle.ppp_mp.specs.declared.slots.SlotPiece.{SlotPiece}
+use Rattle.ppp_mp.specs.declared.slot_piece.SlotPiece.{SlotPiece}
 use Rattle.ppp_mp.specs.declared.counts.PieceNow.TheVariants.{Kept, Doubled}
 use Rattle.ppp_mp.proofs.MemberCalls.{brought_same, moved_same, there_same}
 use Rattle.ppp_mp.proofs.SettlingLemmas.{room_first, room_last, looks_keeps}

@@ -12,4 +12,5 @@ invariant-loop-i l = record {
   within : length l.packet ≤ l.limit;
   fits : l.fits ≡ true → l.packet ≡ joined_there l.initial.self.pieces l.i;
   too_long : l.fits ≡ false → l.limit < length (joined_there l.initial.self.pieces l.i);
+  rose : l.initial.self.looks ≤ l.self.looks;
 }

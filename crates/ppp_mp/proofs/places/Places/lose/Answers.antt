@@ -12,6 +12,7 @@ loop-i-init c = record {
   base = refl;
   end = refl;
   looks = omega arith;
+  rose = omega arith;
 }
 
 pub shift-requires : goal.shift-requires
@@ -32,4 +33,5 @@ returns c =
       pieces = λ j. c.shift.ensures.pieces j ∙ c.loop-i.invariant.left (j + c.args.count) (omega arith);
       end = omega arith;
       looks = omega arith;
+      rose = let before = c.loop-i.invariant.rose in omega arith;
     }

@@ -9,4 +9,5 @@ invariant-loop-i l = record {
   base : l.self.base ≡ l.initial.self.base;
   end : l.self.end ≡ l.initial.self.end;
   looks : l.self.looks ≤ l.initial.self.looks + l.i;
+  rose : l.initial.self.looks ≤ l.self.looks;
 }

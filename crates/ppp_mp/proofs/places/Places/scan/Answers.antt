@@ -1,7 +1,7 @@
 use Rattle.std.proofs.Common.{◌≡◌, ◌==◌, ℕ, List, Option, Some, false, ap, sym, subst, ◌∙◌, arith}
 use Rattle.ppp_mp.specs.Places.{PlacesNow, place, IsThere, BegunThere}
-use Rattle.ppp_mp.specs.declared.slots.SlotPiece.{SlotPiece}
-use Rattle.ppp_mp.specs.declared.slots.SlotView.{SlotView}
+use Rattle.ppp_mp.specs.declared.slot_piece.SlotPiece.{SlotPiece}
+use Rattle.ppp_mp.specs.declared.slot_piece.SlotView.{SlotView}
 use Rattle.ppp_mp.proofs.PlaceLemmas.{same_bool}
 use Rattle.ppp_mp.proofs.WindowLemmas.{low_none, high_none, past_none, viewed}
 use Rattle.ppp_mp.proofs.places.Places.scan.Goals as goal
@@ -44,6 +44,7 @@ loop-len-preserved c =
       begun = below_more (λ i. IsThere c.args.self.now.pieces i) c.loop-len.len c.loop-len.invariant.begun (t.0, there, first, last);
       same = c.at.ensures.same ∙ ap set c.loop-len.invariant.same;
       looks = omega arith;
+      rose = let up = c.at.ensures.rose in let before = c.loop-len.invariant.rose in omega arith;
     }
 
 pub missing-requires-2-clause-begun : goal.missing-requires-2-clause-begun

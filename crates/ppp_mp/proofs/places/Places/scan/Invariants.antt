@@ -7,4 +7,5 @@ invariant-loop-len l = record {
   begun : BegunThere l.initial.self.pieces l.len;
   same : l.self ≡ record l.initial.self { looks = l.self.looks };
   looks : l.self.looks ≤ l.initial.self.looks + l.len;
+  rose : l.initial.self.looks ≤ l.self.looks;
 }

@@ -7,4 +7,5 @@ invariant-loop-i l = record {
   none : (j : ℕ) → j < l.i → place l.initial.self.pieces j ≡ None;
   same : l.self ≡ record l.initial.self { looks = l.self.looks };
   looks : l.self.looks + l.start ≤ l.initial.self.looks + l.i;
+  rose : l.initial.self.looks ≤ l.self.looks;
 }
