@@ -1,3 +1,7 @@
+ghost use Rattle.std.specs.Prelude.{IfOk};
+ghost use Rattle.ppp_memory.specs.Line.{state_of};
+ghost use Rattle.ppp_outside.specs.Line.{IsNewLine};
+
 use crate::{
     LineParts, LineTurn, MemoryDialer, MemoryLine, NewLine, ReplayDialer, ReplayLine, ReplaySink,
 };
@@ -10,12 +14,9 @@ use std::alloc::Global;
 use std::test::Fail;
 
 // A line that gives two octets at a time.
-fn line(
-    alloc: Global,
-    octets: &[u8],
-    failing: &[u64],
-    room: usize,
-) -> Result<MemoryLine, NoMemory> {
+fn line(alloc: Global, octets: &[u8], failing: &[u64], room: usize) -> Result<MemoryLine, NoMemory>
+    ensures { IfOk result (λ s. IsNewLine (state_of s)) }
+{
     let parts = LineParts {
         octets: Vec::from_slice(alloc, octets)?,
         piece: 2,
