@@ -15,6 +15,8 @@ mod iface_in;
 mod iface_out;
 mod kept_answer;
 mod kit;
+#[cfg(test)]
+mod kit_tests;
 mod line;
 #[cfg(test)]
 mod line_tests;
