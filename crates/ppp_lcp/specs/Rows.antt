@@ -7,6 +7,7 @@ use Rattle.ppp_packet.specs.OptionsOf.{Item, item}
 use Rattle.ppp_control.specs.declared.judging.Verdict.{Verdict}
 use Rattle.ppp_control.specs.declared.judging.Verdict.TheVariants.{Ack, Nak, Reject}
 use Rattle.ppp_control.specs.OwnPackets.{packet}
+use Rattle.ppp_control.specs.Past.{Happened}
 use Rattle.ppp_control.specs.Rules.{by_itself, opens, comes_up, ticks, hears, rejects, called_with}
 use Rattle.ppp_lcp.specs.declared.wish.LcpWish.{LcpWish}
 use Rattle.ppp_lcp.specs.Session.{LcpCall}
@@ -65,6 +66,15 @@ refused =
     ∷ called_with (hears (packet 1 5 (1 ∷ 4 ∷ 0 ∷ 0x40 ∷ 13 ∷ 3 ∷ 0 ∷ [])) tt) 1 (Some RcrBad) (Scn ∷ []) (packet 4 5 (13 ∷ 3 ∷ 0 ∷ []) ∷ [])
     ∷ begun
 
+-- Both requests acknowledged, ours after a Nak of its MRU.
+abbrev pub agreed : List LcpCall
+agreed =
+    called_with (hears (packet 2 2 (1 ∷ 4 ∷ 5 ∷ 0x78 ∷ usual_options)) tt) 2 (Some Rca) (Irc ∷ Tlu ∷ []) []
+    ∷ called_with (hears (packet 2 2 usual_options) tt) 2 None [] []
+    ∷ called_with (hears (packet 3 1 (1 ∷ 4 ∷ 5 ∷ 0x78 ∷ [])) tt) 1 (Some Rcn) (Irc ∷ Scr ∷ []) (packet 1 2 (1 ∷ 4 ∷ 5 ∷ 0x78 ∷ usual_options) ∷ [])
+    ∷ called_with (hears (packet 1 9 (1 ∷ 4 ∷ 5 ∷ 0 ∷ [])) tt) 1 (Some RcrGood) (Sca ∷ []) (packet 2 9 (1 ∷ 4 ∷ 5 ∷ 0 ∷ []) ∷ [])
+    ∷ begun
+
 -- A life: both requests acknowledged, an echo each way, a protocol rejected, and the peer's end.
 abbrev pub lived : List LcpCall
 lived =
@@ -75,11 +85,34 @@ lived =
     ∷ called_with (hears (packet 9 7 (0 ∷ 0 ∷ 0 ∷ 0 ∷ 5 ∷ [])) tt) 30003 (Some Rxr) (Ser ∷ []) (packet 10 7 (0x11 ∷ 0x22 ∷ 0x33 ∷ 0x44 ∷ 5 ∷ []) ∷ [])
     ∷ called_with ticks 30002 None [] (packet 9 3 (0x11 ∷ 0x22 ∷ 0x33 ∷ 0x44 ∷ []) ∷ [])
     ∷ called_with ticks 30001 None [] []
-    ∷ called_with (hears (packet 2 2 (1 ∷ 4 ∷ 5 ∷ 0x78 ∷ usual_options)) tt) 2 (Some Rca) (Irc ∷ Tlu ∷ []) []
-    ∷ called_with (hears (packet 2 2 usual_options) tt) 2 None [] []
-    ∷ called_with (hears (packet 3 1 (1 ∷ 4 ∷ 5 ∷ 0x78 ∷ [])) tt) 1 (Some Rcn) (Irc ∷ Scr ∷ []) (packet 1 2 (1 ∷ 4 ∷ 5 ∷ 0x78 ∷ usual_options) ∷ [])
-    ∷ called_with (hears (packet 1 9 (1 ∷ 4 ∷ 5 ∷ 0 ∷ [])) tt) 1 (Some RcrGood) (Sca ∷ []) (packet 2 9 (1 ∷ 4 ∷ 5 ∷ 0 ∷ []) ∷ [])
+    ∷ agreed
+
+-- The peer's requests have our own number, twice, and each is named another one; a Nak that names one gives us a new one, and then theirs is
+-- another. A Reject takes ours away. The generator's words are 11223344, 150b3a72, b5ca8af5 and 09882836.
+abbrev pub looped : List LcpCall
+looped =
+    called_with (hears (packet 1 6 (5 ∷ 6 ∷ 0x11 ∷ 0x22 ∷ 0x33 ∷ 0x44 ∷ [])) tt) 1 (Some RcrBad) (Scn ∷ []) (packet 3 6 (5 ∷ 6 ∷ 0xb5 ∷ 0xca ∷ 0x8a ∷ 0xf5 ∷ []) ∷ [])
+    ∷ called_with (hears (packet 1 5 (5 ∷ 6 ∷ 0x11 ∷ 0x22 ∷ 0x33 ∷ 0x44 ∷ [])) tt) 1 (Some RcrBad) (Scn ∷ []) (packet 3 5 (5 ∷ 6 ∷ 0x15 ∷ 0x0b ∷ 0x3a ∷ 0x72 ∷ []) ∷ [])
     ∷ begun
+
+abbrev pub unlooped : List LcpCall
+unlooped =
+    called_with (hears (packet 4 2 (5 ∷ 6 ∷ 0x09 ∷ 0x88 ∷ 0x28 ∷ 0x36 ∷ [])) tt) 1 (Some Rcn) (Irc ∷ Scr ∷ []) (packet 1 3 (2 ∷ 6 ∷ 0 ∷ 0 ∷ 0 ∷ 0 ∷ 7 ∷ 2 ∷ 8 ∷ 2 ∷ []) ∷ [])
+    ∷ called_with (hears (packet 1 7 (5 ∷ 6 ∷ 0x11 ∷ 0x22 ∷ 0x33 ∷ 0x44 ∷ [])) tt) 1 (Some RcrGood) (Sca ∷ []) (packet 2 7 (5 ∷ 6 ∷ 0x11 ∷ 0x22 ∷ 0x33 ∷ 0x44 ∷ []) ∷ [])
+    ∷ called_with (hears (packet 3 1 (5 ∷ 6 ∷ 0 ∷ 0 ∷ 0 ∷ 9 ∷ [])) tt) 1 (Some Rcn) (Irc ∷ Scr ∷ []) (packet 1 2 (2 ∷ 6 ∷ 0 ∷ 0 ∷ 0 ∷ 0 ∷ 5 ∷ 6 ∷ 0x09 ∷ 0x88 ∷ 0x28 ∷ 0x36 ∷ 7 ∷ 2 ∷ 8 ∷ 2 ∷ []) ∷ [])
+    ∷ looped
+
+-- An echo has gone out; then a reply with another number is heard, or one with our own, which is none.
+abbrev pub echoed : List LcpCall
+echoed = called_with ticks 30002 None [] (packet 9 3 (0x11 ∷ 0x22 ∷ 0x33 ∷ 0x44 ∷ []) ∷ []) ∷ agreed
+
+abbrev pub replied : List ℕ → List LcpCall
+replied number = called_with (hears (packet 10 3 number) tt) 30003 (Some Rxr) (Ser ∷ []) [] ∷ echoed
+
+-- so many packets that take an identifier, one a call
+abbrev pub numbered : ℕ → List Happened
+numbered zero = []
+numbered (suc n) = record { now = 0; event = Some Ruc; acts = Scj ∷ []; packets = packet 7 0 [] ∷ [] } ∷ numbered n
 
 -- Requests with their answers, where our number is 5 and the next word 9, after so many Naks.
 pub record Answered : Type 0 where
