@@ -11,7 +11,8 @@ use Rattle.ppp_dial.specs.declared.policy.DialPolicy.{DialPolicy}
 use Rattle.ppp_dial.specs.DialLaw.{is_allowed, is_passed_over}
 use Rattle.ppp_dial.specs.Happened.{DialCall}
 use Rattle.ppp_dial.specs.InPlace.{Follows, IsSessionOver}
-use Rattle.ppp_dial.specs.LookingBack.{SoFar, is_nothing, is_under_way, hold_since, was_to_wait, has_come, finished_with}
+use Rattle.ppp_dial.specs.LookingBack.{SoFar, is_nothing, is_under_way, hold_since, was_to_wait, finished_with}
+use Rattle.ppp_timer.specs.Due.{has_come}
 use Rattle.ppp_dial.proofs.PlaceLemmas.{begun}
 
 -- Each of these five can't come where it would follow.

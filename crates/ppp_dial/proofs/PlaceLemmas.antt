@@ -12,7 +12,8 @@ use Rattle.ppp_dial.specs.declared.session_end.SessionEnd.{SessionEnd}
 use Rattle.ppp_dial.specs.DialLaw.{DialLaw, MayCome, is_allowed, is_passed_over, is_status, last_status, is_time_at, is_woken_by, would_begin, leads_to_hold, needs_no_hold}
 use Rattle.ppp_dial.specs.InPlace.{EndsWithHold, EndsWithoutHold, Follows}
 use Rattle.ppp_dial.specs.Happened.{DialCall, Happened, asked}
-use Rattle.ppp_dial.specs.LookingBack.{SoFar, so_far, is_stopped_in, is_nothing, was_begun, hold_since, was_to_wait, status_of, finished_with, last_in, has_come, is_stop, failures_with}
+use Rattle.ppp_dial.specs.LookingBack.{SoFar, so_far, is_stopped_in, is_nothing, was_begun, hold_since, was_to_wait, status_of, finished_with, last_in, is_stop, failures_with}
+use Rattle.ppp_timer.specs.Due.{has_come}
 use Rattle.ppp_dial.proofs.Allowed.{allowed_is_rule}
 use Rattle.ppp_dial.proofs.LookingBackLemmas.{made_of, same_so_far, seen-parts}
 

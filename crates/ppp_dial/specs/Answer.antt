@@ -8,7 +8,8 @@ use Rattle.ppp_dial.specs.declared.call.CallKind.{CallKind}
 use Rattle.ppp_dial.specs.declared.call.CallKind.TheVariants.{Start, Wake, Hup, Tick, SessionOver, Stop}
 use Rattle.ppp_dial.specs.DialLaw.{has_failed_often}
 use Rattle.ppp_dial.specs.Happened.{DialCall}
-use Rattle.ppp_dial.specs.LookingBack.{SoFar, failures_with, is_new, is_under_way, holds_until, is_waiting, finished_with, has_come}
+use Rattle.ppp_dial.specs.LookingBack.{SoFar, failures_with, is_new, is_under_way, holds_until, is_waiting, finished_with}
+use Rattle.ppp_timer.specs.Due.{has_come}
 
 -- an attempt, where there is room
 abbrev pub attempt : ℕ → DialNow

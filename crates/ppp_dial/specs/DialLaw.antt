@@ -7,7 +7,8 @@ use Rattle.ppp_dial.specs.declared.session_end.SessionEnd.{SessionEnd}
 use Rattle.ppp_dial.specs.declared.call.CallKind.{CallKind}
 use Rattle.ppp_dial.specs.declared.call.CallKind.TheVariants.{Start, Wake, Hup, Tick, SessionOver, Stop}
 use Rattle.ppp_dial.specs.Happened.{DialCall, Happened}
-use Rattle.ppp_dial.specs.LookingBack.{SoFar, failures_with, so_far, is_new, is_under_way, holds_until, is_waiting, finished_with, has_come}
+use Rattle.ppp_dial.specs.LookingBack.{SoFar, failures_with, so_far, is_new, is_under_way, holds_until, is_waiting, finished_with}
+use Rattle.ppp_timer.specs.Due.{has_come}
 
 -- `maxfail` is a limit on the failures in a row, unless it is 0.
 abbrev pub has_failed_often : ℕ → ℕ → Bool

@@ -5,3 +5,4 @@ pub mod Answer
 pub mod DialState
 pub mod InPlace
 pub mod Rows
+pub use Rattle.ppp_timer.specs.Due

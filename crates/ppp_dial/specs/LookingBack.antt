@@ -77,8 +77,3 @@ is_waiting s = was_to_wait s.last
 
 abbrev pub finished_with : SoFar → Option ℕ
 finished_with s = status_of s.last
-
--- whether a moment has come
-abbrev pub has_come : ℕ → Option ℕ → Bool
-has_come now None = false
-has_come now (Some until) = nat_le until now

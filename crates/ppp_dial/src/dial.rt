@@ -13,6 +13,7 @@ use crate::rules::{
 };
 use crate::session_end::SessionEnd;
 use crate::stage::Stage;
+use ppp_timer::has_come;
 
 /// When a link dials: told of what happens to it, it answers what is to be done. Moments are milliseconds of one clock;
 /// `room` is how many marks the link's log has room for.
@@ -165,7 +166,9 @@ impl Dial {
             (CallKind::Start, Stage::New) => next(self.policy, room),
             (CallKind::Wake, Stage::Waiting) => attempt(room),
             (CallKind::Hup, Stage::Holding(_)) => next(self.policy, room),
-            (CallKind::Tick, Stage::Holding(until)) if until <= now => next(self.policy, room),
+            (CallKind::Tick, Stage::Holding(until)) if has_come(Some(until), now) => {
+                next(self.policy, room)
+            }
             (CallKind::SessionOver(end), _) => {
                 let failures = failures_with(call, self.failures);
                 after_session(self.policy, self.stopped, failures, end, room)
