@@ -27,12 +27,13 @@ pub struct Gather {
 
 impl Model for Gather {
     ghost use Rattle.std.specs.Prelude.{◌≡◌, false};
-    ghost use Rattle.ppp_mp.specs.declared.facts.GatherFacts.{GatherFacts};
+    ghost use Rattle.ppp_mp.specs.StandsFor.{GatherNow};
+    ghost use Rattle.ppp_mp.specs.Facts.{now_of};
     ghost use Rattle.ppp_mp.specs.Places.{place, ends};
 
-    ghost Value = { GatherFacts };
+    ghost Value = { GatherNow };
 
-    ghost view = { λ g. g.facts };
+    ghost view = { λ g. now_of g.facts };
 
     ghost invariant = { λ g. ends (place g.facts.places.pieces 0) ≡ false };
 }
@@ -45,7 +46,7 @@ impl Gather {
         ensures stands { IfOk result (λ g. StandsFor long_space g [] (nothing long_space)) }
         ensures mrru { IfOk result (λ g. g.mrru ≡ mrru) }
         ensures members { IfOk result (λ g. members_of g ≡ replicate 16 false) }
-        ensures looks { IfOk result (λ g. g.places.looks ≡ 0) }
+        ensures looks { IfOk result (λ g. g.looks ≡ 0) }
     {
         match Places::new(alloc) {
             Ok(places) => Ok(Gather {
@@ -66,7 +67,7 @@ impl Gather {
         ensures stands { StandsFor long_space self.new [] (nothing long_space) }
         ensures mrru { self.new.mrru ≡ mrru }
         ensures members { members_of self.new ≡ replicate 16 false }
-        ensures looks { self.new.places.looks ≡ 0 }
+        ensures looks { self.new.looks ≡ 0 }
     {
         self.facts.mrru = mrru;
         self.facts.places.restart();
@@ -79,7 +80,7 @@ impl Gather {
     pub fn join(&mut self, link: LinkId)
         ensures mrru { self.new.mrru ≡ self.old.mrru }
         ensures members { members_of self.new ≡ slice_set (members_of self.old) (link - 1) true }
-        ensures looks { self.new.places.looks ≡ self.old.places.looks }
+        ensures looks { self.new.looks ≡ self.old.looks }
         ensures same { IsJoined self.old link → self.new ≡ self.old }
         ensures stands { (past : List Entry) (s : Gathering) → StandsFor long_space self.old past s → Adds long_space self.new past s (Joins link) [] }
     {
@@ -94,7 +95,7 @@ impl Gather {
         ensures mrru { self.new.mrru ≡ self.old.mrru }
         ensures members { members_of self.new ≡ slice_set (members_of self.old) (link - 1) false }
         ensures same { ¬ (IsJoined self.old link) → (self.new ≡ with_looks 0 self.old) × (given.new ≡ []) }
-        ensures looks { self.new.places.looks ≤ 1024 }
+        ensures looks { self.new.looks ≤ 1024 }
         ensures stands { (past : List Entry) (s : Gathering) → StandsFor long_space self.old past s → Adds long_space self.new past s (Leaves link) given.new }
         ensures whole { (past : List Entry) (s : Gathering) → StandsFor long_space self.new past s → AreInOrder s.kept 0 s.least s.given }
     {
@@ -116,7 +117,7 @@ impl Gather {
         ensures stranger { (result ≡ PieceNow.Stranger) ↔ ¬ (IsJoined self.old from) }
         ensures bad_header { (result ≡ PieceNow.BadHeader) ↔ (IsJoined self.old from × (length information.now < long_octets)) }
         ensures refused { (result ≡ PieceNow.Stranger) ⊎ (result ≡ PieceNow.BadHeader) → (self.new ≡ with_looks 0 self.old) × (given.new ≡ []) }
-        ensures looks { self.new.places.looks ≤ 1024 }
+        ensures looks { self.new.looks ≤ 1024 }
         ensures stands { (past : List Entry) (s : Gathering) → StandsFor long_space self.old past s → long_octets ≤ length information.now
             → AddsPiece long_space self.new past s from (fragment_of long_space long_octets information.now) result given.new }
         ensures whole { (past : List Entry) (s : Gathering) → StandsFor long_space self.new past s → AreInOrder s.kept 0 s.least s.given }
@@ -135,7 +136,7 @@ impl Gather {
 
     /// How often a slot was looked at in the last `piece` or `leave`: at most 1,024 times, however far a number jumps.
     pub fn looks(&self) -> u32
-        ensures { result ≡ self.now.places.looks }
+        ensures { result ≡ self.now.looks }
     {
         self.facts.places.looks()
     }

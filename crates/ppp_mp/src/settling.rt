@@ -3,7 +3,7 @@ ghost use Rattle.ppp_mp.specs.Delivered.{lowest, lesser, Gathering, AtRest, mark
 ghost use Rattle.ppp_mp.specs.Header.{long_space};
 ghost use Rattle.ppp_mp.specs.Places.{place, tally, ends, Found, HasLooked};
 ghost use Rattle.ppp_mp.specs.Moves.{IsMoved, HasSettled, HasSettledNow, HasCompleted, HasTaken, IsKept, arrived};
-ghost use Rattle.ppp_mp.specs.StandsFor.{KeepsNow, members_of, with_looks};
+ghost use Rattle.ppp_mp.specs.Facts.{KeepsFacts, members_in, with_looks_at};
 
 use crate::counts::PieceNow;
 use crate::facts::GatherFacts;
@@ -27,12 +27,12 @@ impl GatherFacts {
         requires rest { ends (place self.old.places.pieces 0) ≡ false }
         requires member { is_some (slice_index_or self.old.overs at None) ≡ true }
         ensures mrru { self.new.mrru ≡ self.old.mrru }
-        ensures members { members_of self.new ≡ members_of self.old }
+        ensures members { members_in self.new ≡ members_in self.old }
         ensures rest { ends (place self.new.places.pieces 0) ≡ false }
         ensures looks { self.new.places.looks ≤ self.old.places.looks + 1024 }
         ensures rose { self.old.places.looks ≤ self.new.places.looks }
         ensures other { (result ≢ PieceNow.Stranger) × (result ≢ PieceNow.BadHeader) }
-        ensures takes { (s : Gathering) → KeepsNow long_space self.old s → AtRest self.old.mrru (mark s) s
+        ensures takes { (s : Gathering) → KeepsFacts long_space self.old s → AtRest self.old.mrru (mark s) s
             → HasTaken long_space self.old.mrru s (at + 1) (arrived field piece) result self.new given.new }
     {
         let ahead = self.ahead(field);
@@ -125,7 +125,7 @@ impl GatherFacts {
     // Whether a piece waits at this place.
     fn waits(&mut self, i: u32) -> bool
         ensures waits { result ≡ is_some (place self.old.places.pieces i) }
-        ensures same { self.new ≡ with_looks self.new.places.looks self.old }
+        ensures same { self.new ≡ with_looks_at self.new.places.looks self.old }
         ensures looks { self.new.places.looks ≤ self.old.places.looks + 1 }
         ensures rose { self.old.places.looks ≤ self.new.places.looks }
     {
@@ -136,7 +136,7 @@ impl GatherFacts {
     fn scan(&mut self, bound: u32) -> RuleNow
         ensures found { Found self.new.places.pieces bound result }
         ensures past { (i : ℕ) → 128 ≤ i → place self.new.places.pieces i ≡ None }
-        ensures same { self.new ≡ with_looks self.new.places.looks self.old }
+        ensures same { self.new ≡ with_looks_at self.new.places.looks self.old }
         ensures looks { HasLooked self.old.places self.new.places result }
         ensures rose { self.old.places.looks ≤ self.new.places.looks }
     {
@@ -145,7 +145,7 @@ impl GatherFacts {
 
     // The looks are counted from 0 on again.
     pub(crate) fn reset(&mut self)
-        ensures now { self.new ≡ with_looks 0 self.old }
+        ensures now { self.new ≡ with_looks_at 0 self.old }
         ensures end { self.old.places.end ≤ 128 }
     {
         self.places.reset();
@@ -155,7 +155,7 @@ impl GatherFacts {
     pub(crate) fn settle_now(&mut self, given: &mut Given)
         requires { length given.old + tally ends self.old.places.pieces 128 ≤ 128 }
         ensures mrru { self.new.mrru ≡ self.old.mrru }
-        ensures members { members_of self.new ≡ members_of self.old }
+        ensures members { members_in self.new ≡ members_in self.old }
         ensures rest { ends (place self.new.places.pieces 0) ≡ false }
         ensures looks { self.new.places.looks + 2 * self.new.places.end ≤ self.old.places.looks + 3 * self.old.places.end + 1 }
         ensures rose { self.old.places.looks ≤ self.new.places.looks }
@@ -186,7 +186,7 @@ impl GatherFacts {
         requires { length given.old + tally ends self.old.places.pieces 128 ≤ 128 }
         ensures past { (i : ℕ) → 128 ≤ i → place self.new.places.pieces i ≡ None }
         ensures mrru { self.new.mrru ≡ self.old.mrru }
-        ensures members { members_of self.new ≡ members_of self.old }
+        ensures members { members_in self.new ≡ members_in self.old }
         ensures room { length given.new + tally ends self.new.places.pieces 128 ≤ length given.old + tally ends self.old.places.pieces 128 }
         ensures rest { ends (place self.new.places.pieces 0) ≡ false }
         ensures looks { self.new.places.looks + 2 * self.new.places.end ≤ self.old.places.looks + 3 * self.old.places.end + 1 }

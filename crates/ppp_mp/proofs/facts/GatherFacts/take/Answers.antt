@@ -3,7 +3,8 @@ use Rattle.ppp_mp.specs.Delivered.{AtRest, mark, lowest}
 use Rattle.ppp_mp.specs.Header.{long_space}
 use Rattle.ppp_mp.specs.Places.{place}
 use Rattle.ppp_mp.specs.Moves.{HasSettledNow, HasSettled, HasTaken, IsKept, arrived}
-use Rattle.ppp_mp.specs.StandsFor.{KeepsNow, stopped, members_of}
+use Rattle.ppp_mp.specs.Facts.{KeepsFacts, members_in}
+use Rattle.ppp_mp.specs.StandsFor.{stopped}
 use Rattle.ppp_mp.specs.declared.facts.GatherFacts.{GatherFacts}
 use Rattle.ppp_mp.specs.declared.slot_piece.SlotPiece.{SlotPiece}
 use Rattle.ppp_mp.specs.declared.counts.PieceNow.TheVariants.{Kept, Doubled}
@@ -49,7 +50,7 @@ returns-then-waits-clause-takes c = λ s k rest.
     let g2 : GatherFacts = c.count_doubled.new.self in
     let same = c.waits.ensures.same in
     let base : c.waits.new.self.places.base ≡ c.args.self.now.places.base = ap (λ (x : GatherFacts). x.places.base) same in
-    let keeps : KeepsNow long_space c.waits.new.self s = subst (λ (x : GatherFacts). KeepsNow long_space x s) (sym same) (looks_keeps c.args.self.now c.waits.new.self.places.looks s k) in
+    let keeps : KeepsFacts long_space c.waits.new.self s = subst (λ (x : GatherFacts). KeepsFacts long_space x s) (sym same) (looks_keeps c.args.self.now c.waits.new.self.places.looks s k) in
     let all : c.count_doubled.new.self ≡ record c.waits.new.self { overs = over_now c.waits.new.self c.args.at c.ahead-ahead.result; counts = record c.waits.new.self.counts { doubled = stopped (c.waits.new.self.counts.doubled + 1) } } =
     c.count_doubled.ensures ∙ ap counting_doubled c.bring-then-waits.ensures in
     let P = λ (l : List (List ℕ)). HasSettledNow long_space g2 c.settle_now-then-waits.new.self l c.settle_now-then-waits.new.given in
@@ -69,7 +70,7 @@ returns-clause-takes c = λ s k rest.
     let g6 : GatherFacts = c.bring-2.new.self in
     let base0 : c.waits.new.self.places.base ≡ c.args.self.now.places.base = ap (λ (x : GatherFacts). x.places.base) same in
     let mrru0 : c.waits.new.self.mrru ≡ c.args.self.now.mrru = ap (λ (x : GatherFacts). x.mrru) same in
-    let keeps : KeepsNow long_space c.waits.new.self s = subst (λ (x : GatherFacts). KeepsNow long_space x s) (sym same) (looks_keeps c.args.self.now c.waits.new.self.places.looks s k) in
+    let keeps : KeepsFacts long_space c.waits.new.self s = subst (λ (x : GatherFacts). KeepsFacts long_space x s) (sym same) (looks_keeps c.args.self.now c.waits.new.self.places.looks s k) in
     let rests : AtRest c.waits.new.self.mrru (mark s) s = subst (λ (m : ℕ). AtRest m (mark s) s) (sym mrru0) rest in
     let P = λ (l : List (List ℕ)). HasSettled long_space c.max-bound.result c.waits.new.self c.settle.new.self l c.settle.new.given in
     let settled : HasSettled long_space c.max-bound.result c.waits.new.self c.settle.new.self [] c.settle.new.given = subst P c.requires.empty c.settle.ensures.settled in
@@ -92,11 +93,11 @@ returns-clause-takes c = λ s k rest.
 pub returns-then-waits-clause-members : goal.returns-then-waits-clause-members
 returns-then-waits-clause-members c =
     let in_it : is_some (slice_index_or c.waits.new.self.overs c.args.at None) ≡ true = ap (λ (g : GatherFacts). is_some (slice_index_or g.overs c.args.at None)) c.waits.ensures.same ∙ c.requires.member in
-    c.settle_now-then-waits.ensures.members ∙ ap members_of c.count_doubled.ensures ∙ ap members_of c.bring-then-waits.ensures ∙ brought_same c.waits.new.self.overs c.args.at _ in_it ∙ ap members_of c.waits.ensures.same
+    c.settle_now-then-waits.ensures.members ∙ ap members_in c.count_doubled.ensures ∙ ap members_in c.bring-then-waits.ensures ∙ brought_same c.waits.new.self.overs c.args.at _ in_it ∙ ap members_in c.waits.ensures.same
 
 pub returns-clause-members : goal.returns-clause-members
 returns-clause-members c =
-    let before : members_of c.keep.new.self ≡ members_of c.args.self.now =
-    ap (map is_some) c.keep.ensures.overs ∙ ap (map is_some) c.lose.ensures.moved.overs ∙ moved_same c.settle.new.self.overs _ ∙ c.settle.ensures.members ∙ ap members_of c.waits.ensures.same in
+    let before : members_in c.keep.new.self ≡ members_in c.args.self.now =
+    ap (map is_some) c.keep.ensures.overs ∙ ap (map is_some) c.lose.ensures.moved.overs ∙ moved_same c.settle.new.self.overs _ ∙ c.settle.ensures.members ∙ ap members_in c.waits.ensures.same in
     let in_it : is_some (slice_index_or c.keep.new.self.overs c.args.at None) ≡ true = there_same c.keep.new.self.overs c.args.self.now.overs c.args.at before ∙ c.requires.member in
-    c.settle_now-2.ensures.members ∙ ap members_of c.bring-2.ensures ∙ brought_same c.keep.new.self.overs c.args.at _ in_it ∙ before
+    c.settle_now-2.ensures.members ∙ ap members_in c.bring-2.ensures ∙ brought_same c.keep.new.self.overs c.args.at _ in_it ∙ before
