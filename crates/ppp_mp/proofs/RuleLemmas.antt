@@ -5,7 +5,8 @@ use Rattle.std.proofs.lemmas.Bool.{cases_lt}
 use Rattle.std.proofs.lemmas.Bool.Decides.{nat_tests}
 use Rattle.ppp_mp.specs.Pieces.{Piece, piece_at, joined, octets_of, Begun}
 use Rattle.ppp_mp.specs.Delivered.{Gathering, Rule, AtRest, ruled, loses, completes}
-use Rattle.ppp_mp.specs.Places.{place, rule_at, goes_on_there, Scanned, BegunThere, joined_there, octets_there}
+use Rattle.ppp_mp.specs.Ring.{octets_there}
+use Rattle.ppp_mp.specs.Places.{place, rule_at, goes_on_there, Scanned, BegunThere, joined_there}
 use Rattle.ppp_mp.specs.Moves.{IsMoved}
 use Rattle.ppp_mp.specs.Facts.{KeepsFacts, waiting}
 use Rattle.ppp_mp.specs.StandsFor.{stopped, counted}

@@ -5,14 +5,15 @@ ghost use Rattle.ppp_mp.specs.Delivered.{Entry, Joins, Leaves, Gathering, nothin
 ghost use Rattle.ppp_mp.specs.Header.{fragment_of, long_octets, long_space};
 ghost use Rattle.ppp_mp.specs.Moves.{arrived};
 ghost use Rattle.ppp_mp.specs.Pieces.{AreInOrder};
+ghost use Rattle.ppp_mp.specs.Ring.{slot_piece};
 ghost use Rattle.ppp_mp.specs.StandsFor.{StandsFor, Adds, AddsPiece, IsJoined, members_of, with_looks, counted};
 
 use crate::counts::{GatherCounts, PieceNow};
 use crate::facts::GatherFacts;
 use crate::given::Given;
+use crate::packet::Packet;
 use crate::places::Places;
-use crate::slot_piece::SlotPiece;
-use ppp_base::{Frame, LinkId, NoMemory};
+use ppp_base::{LinkId, NoMemory};
 use std::alloc::Global;
 use std::marker::Model;
 
@@ -55,6 +56,7 @@ impl Gather {
                     places,
                     overs: [None; 16],
                     counts: no_counts(),
+                    packet: Packet::new(),
                 },
             }),
             Err(_) => Err(NoMemory),
@@ -116,6 +118,7 @@ impl Gather {
         ensures members { members_of self.new ≡ members_of self.old }
         ensures stranger { (result ≡ PieceNow.Stranger) ↔ ¬ (IsJoined self.old from) }
         ensures bad_header { (result ≡ PieceNow.BadHeader) ↔ (IsJoined self.old from × (length information.now < long_octets)) }
+        ensures seen { (result ≡ PieceNow.Kept) → 1 ≤ self.new.looks }
         ensures refused { (result ≡ PieceNow.Stranger) ⊎ (result ≡ PieceNow.BadHeader) → (self.new ≡ with_looks 0 self.old) × (given.new ≡ []) }
         ensures looks { self.new.looks ≤ 1024 }
         ensures stands { (past : List Entry) (s : Gathering) → StandsFor long_space self.old past s → long_octets ≤ length information.now
@@ -130,7 +133,9 @@ impl Gather {
         }
         match fragment_of(information) {
             None => PieceNow::BadHeader,
-            Some((field, piece)) => self.facts.take(at, field, piece, given),
+            Some((field, first, last, octets)) => {
+                self.facts.take(at, field, first, last, octets, given)
+            }
         }
     }
 
@@ -162,22 +167,17 @@ fn no_counts() -> GatherCounts
     }
 }
 
-// The number of a piece and what stands behind its header. None under four octets.
-fn fragment_of(information: &[u8]) -> Option<(u32, SlotPiece)>
+// The number of a piece, B, E and what stands behind its header. None under four octets.
+fn fragment_of(information: &[u8]) -> Option<(u32, bool, bool, &[u8])>
     requires { length information.now ≤ MOST_FRAME }
     ensures some { IsSome result ↔ (4 ≤ length information.now) }
     ensures field { IfSome result (λ found. found.0 < long_space) }
-    ensures is { IfSome result (λ found. fragment_of long_space long_octets information.now ≡ arrived found.0 found.1) }
+    ensures octets { IfSome result (λ found. length found.3.now ≤ MOST_FRAME) }
+    ensures is { IfSome result (λ found. fragment_of long_space long_octets information.now ≡ arrived found.0 (slot_piece found.1 found.2 found.3.now)) }
 {
     let [control, high, middle, low, octets @ ..] = information else {
         return None;
     };
-    let piece = SlotPiece {
-        first: *control > 127,
-        last: *control / 64 % 2 == 1,
-        len: octets.len() as u16,
-        octets: Frame::from_octets(octets)?,
-    };
     let field = u32::from(*high) * 65536 + u32::from(*middle) * 256 + u32::from(*low);
-    Some((field, piece))
+    Some((field, *control > 127, *control / 64 % 2 == 1, octets))
 }

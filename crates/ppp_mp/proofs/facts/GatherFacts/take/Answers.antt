@@ -2,6 +2,7 @@ use Rattle.std.proofs.Common.{◌≡◌, ◌+◌, ◌-◌, ◌%◌, ℕ, List, O
 use Rattle.ppp_mp.specs.Delivered.{AtRest, mark, lowest}
 use Rattle.ppp_mp.specs.Header.{long_space}
 use Rattle.ppp_mp.specs.Places.{place}
+use Rattle.ppp_mp.specs.Ring.{slot_piece}
 use Rattle.ppp_mp.specs.Moves.{HasSettledNow, HasSettled, HasTaken, IsKept, arrived}
 use Rattle.ppp_mp.specs.Facts.{KeepsFacts, members_in}
 use Rattle.ppp_mp.specs.StandsFor.{stopped}
@@ -27,9 +28,9 @@ settle-requires c = room_first c.args.given.now c.args.self.now.places.pieces c.
 pub settle_now-requires-2 : goal.settle_now-requires-2
 settle_now-requires-2 c =
     let same : c.bring-2.new.self.places.pieces ≡ c.keep.new.self.places.pieces = ap (λ (g : GatherFacts). g.places.pieces) c.bring-2.ensures in
-    let P = λ (l : List (Option SlotPiece)). IsKept c.lose.new.self.places.pieces l (c.ahead-left.result - c.saturating_sub-far.result) c.args.piece in
+    let P = λ (l : List (Option SlotPiece)). IsKept c.lose.new.self.places.pieces l (c.ahead-left.result - c.saturating_sub-far.result) (slot_piece c.args.first c.args.last c.args.octets.now) in
     room_last c.args.given.now c.settle.new.given c.args.self.now.places.pieces c.waits.new.self.places.pieces c.settle.new.self.places.pieces c.lose.new.self.places.pieces c.bring-2.new.self.places.pieces c.saturating_sub-far.result
-    (c.ahead-left.result - c.saturating_sub-far.result) c.args.piece
+    (c.ahead-left.result - c.saturating_sub-far.result) (slot_piece c.args.first c.args.last c.args.octets.now)
     c.requires.empty (ap (λ (g : GatherFacts). g.places.pieces) c.waits.ensures.same) c.requires.rest c.settle.ensures.room c.settle.ensures.past c.lose.ensures.moved.places (subst P (sym same) c.keep.ensures.kept)
 
 pub returns-then-ahead-ge-HALF-clause-takes : goal.returns-then-ahead-ge-HALF-clause-takes
@@ -39,7 +40,7 @@ returns-then-ahead-ge-HALF-clause-takes c = λ s k rest.
     c.count_old.ensures ∙ ap counting_old c.bring.ensures in
     let P = λ (l : List (List ℕ)). HasSettledNow long_space g2 c.settle_now.new.self l c.settle_now.new.given in
     let settled : HasSettledNow long_space g2 c.settle_now.new.self [] c.settle_now.new.given = subst P c.requires.empty c.settle_now.ensures.settled in
-    taken_old c.args.self.now g2 c.settle_now.new.self c.settle_now.new.given s c.args.at c.ahead-ahead.result c.args.field c.args.piece
+    taken_old c.args.self.now g2 c.settle_now.new.self c.settle_now.new.given s c.args.at c.ahead-ahead.result c.args.field (slot_piece c.args.first c.args.last c.args.octets.now)
     k c.requires.field c.ahead-ahead.ensures.within c.ahead-ahead.ensures.is c.if-ahead-ge-HALF.true
     (ap (λ (g : GatherFacts). g.mrru) all) (ap (λ (g : GatherFacts). g.places.base) all) (ap (λ (g : GatherFacts). g.places.pieces) all) (ap (λ (g : GatherFacts). g.overs) all) (ap (λ (g : GatherFacts). g.counts) all)
     settled
@@ -57,12 +58,12 @@ returns-then-waits-clause-takes c = λ s k rest.
     let settled : HasSettledNow long_space g2 c.settle_now-then-waits.new.self [] c.settle_now-then-waits.new.given = subst P c.requires.empty c.settle_now-then-waits.ensures.settled in
     let there : is_some (place c.waits.new.self.places.pieces c.ahead-ahead.result) ≡ true =
     ap (λ (x : GatherFacts). is_some (place x.places.pieces c.ahead-ahead.result)) same ∙ sym c.waits.ensures.waits ∙ c.if-waits.true in
-    let taken : HasTaken long_space c.waits.new.self.mrru s (c.args.at + 1) (arrived c.args.field c.args.piece) Doubled c.settle_now-then-waits.new.self c.settle_now-then-waits.new.given =
-    taken_doubled c.waits.new.self g2 c.settle_now-then-waits.new.self c.settle_now-then-waits.new.given s c.args.at c.ahead-ahead.result c.args.field c.args.piece
+    let taken : HasTaken long_space c.waits.new.self.mrru s (c.args.at + 1) (arrived c.args.field (slot_piece c.args.first c.args.last c.args.octets.now)) Doubled c.settle_now-then-waits.new.self c.settle_now-then-waits.new.given =
+    taken_doubled c.waits.new.self g2 c.settle_now-then-waits.new.self c.settle_now-then-waits.new.given s c.args.at c.ahead-ahead.result c.args.field (slot_piece c.args.first c.args.last c.args.octets.now)
     keeps c.requires.field (ap (λ b. (b + c.ahead-ahead.result) % long_space) base ∙ c.ahead-ahead.ensures.is) (omega (arith, c.if-ahead-ge-HALF.false)) there
     (ap (λ (g : GatherFacts). g.mrru) all) (ap (λ (g : GatherFacts). g.places.base) all) (ap (λ (g : GatherFacts). g.places.pieces) all) (ap (λ (g : GatherFacts). g.overs) all) (ap (λ (g : GatherFacts). g.counts) all)
     settled in
-    subst (λ (m : ℕ). HasTaken long_space m s (c.args.at + 1) (arrived c.args.field c.args.piece) Doubled c.settle_now-then-waits.new.self c.settle_now-then-waits.new.given) (ap (λ (x : GatherFacts). x.mrru) same) taken
+    subst (λ (m : ℕ). HasTaken long_space m s (c.args.at + 1) (arrived c.args.field (slot_piece c.args.first c.args.last c.args.octets.now)) Doubled c.settle_now-then-waits.new.self c.settle_now-then-waits.new.given) (ap (λ (x : GatherFacts). x.mrru) same) taken
 
 pub returns-clause-takes : goal.returns-clause-takes
 returns-clause-takes c = λ s k rest.
@@ -79,16 +80,16 @@ returns-clause-takes c = λ s k rest.
     let mrru : c.bring-2.new.self.mrru ≡ c.waits.new.self.mrru = ap (λ (g : GatherFacts). g.mrru) c.bring-2.ensures ∙ c.keep.ensures.mrru ∙ c.lose.ensures.moved.mrru ∙ c.settle.ensures.mrru in
     let bound : c.max-bound.result ≡ max (unwrap_or (lowest c.waits.new.self.overs) 0) (c.ahead-ahead.result - 127) =
     c.max-bound.ensures ∙ ap (λ b. max b c.saturating_sub.result) c.bound.ensures ∙ ap (λ a. max (unwrap_or (lowest c.waits.new.self.overs) 0) a) c.saturating_sub.ensures in
-    let taken : HasTaken long_space c.waits.new.self.mrru s (c.args.at + 1) (arrived c.args.field c.args.piece) Kept c.settle_now-2.new.self c.settle_now-2.new.given =
+    let taken : HasTaken long_space c.waits.new.self.mrru s (c.args.at + 1) (arrived c.args.field (slot_piece c.args.first c.args.last c.args.octets.now)) Kept c.settle_now-2.new.self c.settle_now-2.new.given =
     taken_kept c.waits.new.self c.settle.new.self c.lose.new.self c.keep.new.self g6 c.settle_now-2.new.self c.settle.new.given c.settle_now-2.new.given s c.args.at c.ahead-ahead.result c.args.field
-    c.max-bound.result c.ahead-left.result c.saturating_sub-far.result (c.ahead-left.result - c.saturating_sub-far.result) c.args.piece
+    c.max-bound.result c.ahead-left.result c.saturating_sub-far.result (c.ahead-left.result - c.saturating_sub-far.result) (slot_piece c.args.first c.args.last c.args.octets.now)
     keeps rests c.requires.field (ap (λ b. (b + c.ahead-ahead.result) % long_space) base0 ∙ c.ahead-ahead.ensures.is) (omega (arith, c.if-ahead-ge-HALF.false)) there
     bound settled
     c.ahead-left.ensures.within c.ahead-left.ensures.is c.saturating_sub-far.ensures c.lose.ensures.moved c.lose.ensures.counts
     refl c.keep.ensures.base c.keep.ensures.kept c.keep.ensures.overs c.keep.ensures.counts
     mrru (ap (λ (g : GatherFacts). g.places.base) c.bring-2.ensures) (ap (λ (g : GatherFacts). g.places.pieces) c.bring-2.ensures) (ap (λ (g : GatherFacts). g.overs) c.bring-2.ensures) (ap (λ (g : GatherFacts). g.counts) c.bring-2.ensures)
     c.settle_now-2.ensures.settled in
-    subst (λ (m : ℕ). HasTaken long_space m s (c.args.at + 1) (arrived c.args.field c.args.piece) Kept c.settle_now-2.new.self c.settle_now-2.new.given) mrru0 taken
+    subst (λ (m : ℕ). HasTaken long_space m s (c.args.at + 1) (arrived c.args.field (slot_piece c.args.first c.args.last c.args.octets.now)) Kept c.settle_now-2.new.self c.settle_now-2.new.given) mrru0 taken
 
 pub returns-then-waits-clause-members : goal.returns-then-waits-clause-members
 returns-then-waits-clause-members c =
