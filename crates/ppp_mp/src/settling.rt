@@ -269,7 +269,17 @@ fn less(over: Option<u32>, count: u32) -> Option<u32>
 fn lowest(overs: &[Option<u32>]) -> Option<u32>
     ensures { result ≡ lowest overs.now }
 {
-    overs.iter().fold(None, |least, over| lesser(least, *over))
+    let mut least = None;
+    let mut left = overs;
+    while let [over, rest @ ..] = left {
+        least = lesser(least, *over);
+        left = rest;
+        // None is less than 0.
+        if let Some(0) = least {
+            return least;
+        }
+    }
+    least
 }
 
 fn lesser(least: Option<u32>, over: Option<u32>) -> Option<u32>
