@@ -9,7 +9,11 @@ use Rattle.ppp_mp.specs.declared.counts.PieceNow.{PieceNow}
 use Rattle.ppp_mp.specs.declared.counts.PieceNow.TheVariants.{Stranger}
 use Rattle.ppp_mp.specs.declared.facts.GatherFacts.{GatherFacts}
 use Rattle.ppp_mp.proofs.Rests.{delivered_rests}
+use Rattle.std.specs.List.{AllByRecursion}
+use Rattle.ppp_mp.specs.Membership.{IsLink}
 use Rattle.ppp_mp.specs.Pieces.{AreInOrder}
+use Rattle.ppp_mp.specs.Reached.{Reached, HasReached, MadeOfPieces}
+use Rattle.ppp_mp.proofs.Reaching.{delivered_made}
 use Rattle.ppp_mp.proofs.Wholes.{delivered_whole}
 use Rattle.ppp_mp.proofs.Nows.{now_keeps, facts_keep}
 use Rattle.ppp_mp.proofs.Taking.{joins_keeps, leaves_keeps, member-is, is-member}
@@ -79,6 +83,10 @@ piece_stands g1 g' packets past s link at fragment fragment' answer link_is in_i
 -- Each packet that was given is whole.
 pub whole_now : (g : GatherNow) (past : List Entry) (s : Gathering) → StandsFor long_space g past s → AreInOrder s.kept 0 s.least s.given
 whole_now g past s stands = delivered_whole long_space g.mrru past s stands.delivered
+
+-- Each is made of pieces that came.
+pub came_now : (g : GatherNow) (past : List Entry) (reached : List Reached) (s : Gathering) → StandsFor long_space g past s → AllByRecursion IsLink past → HasReached long_space g.mrru past reached → AllByRecursion (MadeOfPieces reached) s.given
+came_now g past reached s stands links has = delivered_made long_space g.mrru past reached s links has stands.delivered
 
 -- A gatherer stands for what it stood for, whatever looks are counted.
 pub looks_stand : (g : GatherNow) (g1 g' : GatherFacts) (past : List Entry) (s : Gathering) → now_of g1 ≡ g → g' ≡ with_looks_at 0 g1 → StandsFor long_space g past s → StandsFor long_space (now_of g') past s

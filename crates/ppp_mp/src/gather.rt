@@ -4,7 +4,10 @@ ghost use Rattle.std.specs.Prelude.{◌≡◌, ◌≢◌, ℕ, ◌+◌, ◌*◌,
 ghost use Rattle.ppp_mp.specs.Delivered.{Entry, Joins, Leaves, Gathering, nothing};
 ghost use Rattle.ppp_mp.specs.Header.{fragment_of, long_octets, long_space};
 ghost use Rattle.ppp_mp.specs.Moves.{arrived};
+ghost use Rattle.std.specs.List.{AllByRecursion};
+ghost use Rattle.ppp_mp.specs.Membership.{IsLink};
 ghost use Rattle.ppp_mp.specs.Pieces.{AreInOrder};
+ghost use Rattle.ppp_mp.specs.Reached.{Reached, HasReached, MadeOfPieces};
 ghost use Rattle.ppp_mp.specs.Ring.{slot_piece};
 ghost use Rattle.ppp_mp.specs.StandsFor.{StandsFor, Adds, AddsPiece, IsJoined, members_of, with_looks, counted};
 
@@ -100,6 +103,7 @@ impl Gather {
         ensures looks { self.new.looks ≤ 1024 }
         ensures stands { (past : List Entry) (s : Gathering) → StandsFor long_space self.old past s → Adds long_space self.new past s (Leaves link) given.new }
         ensures whole { (past : List Entry) (s : Gathering) → StandsFor long_space self.new past s → AreInOrder s.kept 0 s.least s.given }
+        ensures came { (past : List Entry) (reached : List Reached) (s : Gathering) → StandsFor long_space self.new past s → AllByRecursion IsLink past → HasReached long_space self.new.mrru past reached → AllByRecursion (MadeOfPieces reached) s.given }
     {
         given.clear();
         self.facts.reset();
@@ -124,6 +128,7 @@ impl Gather {
         ensures stands { (past : List Entry) (s : Gathering) → StandsFor long_space self.old past s → long_octets ≤ length information.now
             → AddsPiece long_space self.new past s from (fragment_of long_space long_octets information.now) result given.new }
         ensures whole { (past : List Entry) (s : Gathering) → StandsFor long_space self.new past s → AreInOrder s.kept 0 s.least s.given }
+        ensures came { (past : List Entry) (reached : List Reached) (s : Gathering) → StandsFor long_space self.new past s → AllByRecursion IsLink past → HasReached long_space self.new.mrru past reached → AllByRecursion (MadeOfPieces reached) s.given }
     {
         given.clear();
         self.facts.reset();

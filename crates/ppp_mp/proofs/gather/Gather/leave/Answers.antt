@@ -4,7 +4,7 @@ use Rattle.ppp_mp.specs.Places.{place, ends}
 use Rattle.ppp_mp.specs.StandsFor.{GatherNow, members_of}
 use Rattle.ppp_mp.specs.Facts.{members_in, now_of}
 use Rattle.ppp_mp.proofs.MemberCalls.{map_set, same_there}
-use Rattle.ppp_mp.proofs.Calls.{whole_now, looks_stand, left_stands, stranger_left}
+use Rattle.ppp_mp.proofs.Calls.{whole_now, came_now, looks_stand, left_stands, stranger_left}
 use Rattle.ppp_mp.proofs.SettlingLemmas.{room_first}
 use Rattle.ppp_mp.proofs.gather.Gather.leave.Goals as goal
 
@@ -42,3 +42,9 @@ returns-else-is_member-clause-members c =
     let at : c.from-at.result ≡ c.args.link - 1 = c.from-at.ensures ∙ ap (λ n. n - 1) c.number.ensures.value in
     let out : is_some (slice_index_or c.reset.new.self.overs (c.args.link - 1) None) ≡ false = rw (← at) (sym c.is_member.ensures ∙ c.if-is_member.false) in
     sym (same_there c.reset.new.self.overs (c.args.link - 1) false out) ∙ ap (λ (g : GatherFacts). slice_set (members_in g) (c.args.link - 1) false) c.reset.ensures.now ∙ ap (λ (g : GatherNow). slice_set (members_of g) (c.args.link - 1) false) c.self.view_is
+
+pub returns-then-is_member-clause-came : goal.returns-then-is_member-clause-came
+returns-then-is_member-clause-came c = λ past reached s stands links has. came_now _ past reached s stands links has
+
+pub returns-else-is_member-clause-came : goal.returns-else-is_member-clause-came
+returns-else-is_member-clause-came c = λ past reached s stands links has. came_now _ past reached s stands links has

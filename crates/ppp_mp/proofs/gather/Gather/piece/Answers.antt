@@ -2,7 +2,7 @@ use Rattle.std.proofs.Common.{◌≡◌, ◌+◌, ◌-◌, ◌∙◌, ap, sym, N
 use Rattle.ppp_mp.specs.Header.{fragment_of, long_octets, long_space}
 use Rattle.ppp_mp.specs.Moves.{arrived}
 use Rattle.ppp_mp.specs.Ring.{slot_piece}
-use Rattle.ppp_mp.proofs.Calls.{whole_now, looks_stand, piece_stands, stranger_came}
+use Rattle.ppp_mp.proofs.Calls.{whole_now, came_now, looks_stand, piece_stands, stranger_came}
 use Rattle.ppp_mp.proofs.gather.Gather.piece.Goals as goal
 
 pub returns-then-not-is_member-clause-stands : goal.returns-then-not-is_member-clause-stands
@@ -28,3 +28,12 @@ returns-in-None-clause-whole c = λ past s stands. whole_now _ past s stands
 
 pub returns-in-Some-clause-whole : goal.returns-in-Some-clause-whole
 returns-in-Some-clause-whole c = λ past s stands. whole_now _ past s stands
+
+pub returns-then-not-is_member-clause-came : goal.returns-then-not-is_member-clause-came
+returns-then-not-is_member-clause-came c = λ past reached s stands links has. came_now _ past reached s stands links has
+
+pub returns-in-None-clause-came : goal.returns-in-None-clause-came
+returns-in-None-clause-came c = λ past reached s stands links has. came_now _ past reached s stands links has
+
+pub returns-in-Some-clause-came : goal.returns-in-Some-clause-came
+returns-in-Some-clause-came c = λ past reached s stands links has. came_now _ past reached s stands links has
