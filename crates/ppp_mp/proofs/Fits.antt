@@ -1,5 +1,5 @@
 -- No packet that is given is longer than our MRRU plus 2.
-use Rattle.std.proofs.Common.{◌≡◌, ℕ, ◌+◌, ◌-◌, ◌<◌, ◌≤◌, ◌++◌, zero, suc, max, nat_lt, cond, Bool, true, false, List, [], ◌∷◌, length, Option, None, Some, is_some, slice_set, slice_index_or, refl, sym, ap, subst, ◌∙◌, arith, inl, inr}
+use Rattle.std.proofs.Common.{◌≡◌, ℕ, ◌+◌, ◌-◌, ◌≤◌, ◌++◌, zero, suc, max, nat_lt, cond, Bool, true, false, List, [], ◌∷◌, length, Option, None, Some, is_some, slice_set, slice_index_or, refl, sym, subst, arith, inl, inr}
 use Rattle.std.specs.List.{AllByRecursion}
 use Rattle.std.proofs.lemmas.Bool.Decides.{nat_tests}
 use Rattle.ppp_mp.specs.Pieces.{Piece, joined}

@@ -1,5 +1,6 @@
 -- Who is a member, before and after the single steps.
-use Rattle.std.proofs.Common.{◌≡◌, ℕ, ◌-◌, zero, suc, Bool, true, false, List, [], ◌∷◌, Option, None, Some, is_some, map, option_map, slice_set, slice_index_or, refl, sym, ap, ◌∙◌}
+use Rattle.std.proofs.Common.{◌↔◌, ◌≡◌, ℕ, ◌-◌, zero, suc, Bool, true, false, List, [], ◌∷◌, Option, None, Some, is_some, map, option_map, slice_set, slice_index_or, refl, sym, ap, ◌∙◌}
+use Rattle.ppp_mp.specs.StandsFor.{GatherNow, IsJoined, members_of}
 
 pub map_set : (xs : List (Option ℕ)) (i : ℕ) (y : Option ℕ) → map is_some (slice_set xs i y) ≡ slice_set (map is_some xs) i (is_some y)
 map_set [] i y = refl
@@ -31,3 +32,7 @@ at_map (x ∷ xs) (suc i) = at_map xs i
 
 pub there_same : (xs ys : List (Option ℕ)) (i : ℕ) → map is_some xs ≡ map is_some ys → is_some (slice_index_or xs i None) ≡ is_some (slice_index_or ys i None)
 there_same xs ys i e = sym (at_map xs i) ∙ ap (λ (l : List Bool). slice_index_or l i false) e ∙ at_map ys i
+
+-- A link has joined where it stands among the members.
+pub joined_told : (g : GatherNow) (link : ℕ) → IsJoined g link ↔ (slice_index_or (members_of g) (link - 1) false ≡ true)
+joined_told g link = (λ joined. at_map g.overs (link - 1) ∙ joined, λ told. sym (at_map g.overs (link - 1)) ∙ told)

@@ -1,12 +1,13 @@
 -- Places of waiting pieces.
-use Rattle.std.proofs.Common.{cond, nat_eq, ◌≡◌, ◌≢◌, ◌⊎◌, ◌-◌, length-append, nat_lt, Bool, true, false, not, ℕ, ◌+◌, ◌<◌, ◌≤◌, zero, suc, List, [], ◌∷◌, length, Option, None, Some, refl, ap, ◌∙◌, arith}
+use Rattle.std.proofs.Common.{is_some, sym, cond, nat_eq, ◌≡◌, ◌≢◌, ◌⊎◌, ◌-◌, length-append, nat_lt, Bool, true, false, not, ℕ, ◌+◌, ◌<◌, ◌≤◌, zero, suc, List, [], ◌∷◌, length, Option, None, Some, refl, ap, ◌∙◌, arith}
 use Rattle.std.proofs.lemmas.Bool.{cases_lt}
 use Rattle.std.proofs.lemmas.Bool.Decides.{nat_tests}
 use Rattle.std.proofs.Common.{inl, inr}
 use mathlib.Core.Bool.{beq}
 use Rattle.ppp_mp.specs.declared.slot_piece.SlotPiece.{SlotPiece}
 use Rattle.ppp_mp.specs.Moves.{IsKept}
-use Rattle.ppp_mp.specs.Places.{place, joined_there, octets_there, tally}
+use Rattle.ppp_mp.specs.Ring.{octets_there}
+use Rattle.ppp_mp.specs.Places.{place, joined_there, tally}
 use Rattle.std.proofs.Math.ListN.{get_or}
 
 pub same_bool : (a b : Bool) → not (beq a b) ≡ false → a ≡ b
@@ -114,3 +115,12 @@ tally-kept test old new d n p is = elim (option_cases (place old d)) [
   | inl none ↦ tally-put test old new d n p (is.empty none)
   | inr there ↦ let same = tally-same test old new n (λ j below. is.taken there j) in omega arith
 ]
+
+-- What fits is what isn't too long.
+pub fits_is : (fits : Bool) (limit : ℕ) (octets : List ℕ) → (fits ≡ true → length octets ≤ limit) → (fits ≡ false → limit < length octets) → fits ≡ not (nat_lt limit (length octets))
+fits_is true limit octets short long = let le : length octets ≤ limit = short refl in let t : nat_lt limit (length octets) ≡ false = grind (arith, nat_tests) in rw t refl
+fits_is false limit octets short long = let lt : limit < length octets = long refl in let t : nat_lt limit (length octets) ≡ true = grind (arith, nat_tests) in rw t refl
+
+pub none_waits : (o : Option SlotPiece) (waits : Bool) → waits ≡ is_some o → waits ≡ false → o ≡ None
+none_waits None waits is not_it = refl
+none_waits (Some p) waits is not_it = absurd (let e : true ≡ false = sym is ∙ not_it in cc)

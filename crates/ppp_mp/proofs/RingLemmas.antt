@@ -1,12 +1,13 @@
 -- Slots by the rests of their numbers.
-use Rattle.std.proofs.Common.{◌≡◌, ◌≢◌, ℕ, ◌+◌, ◌%◌, ◌<◌, ◌++◌, zero, suc, nat_eq, cond, Bool, true, false, List, [], ◌∷◌, length, Option, None, Some, is_some, option_map, slice_set, slice_index_or, refl, sym, ap, subst, ◌∙◌, arith, inl, inr}
+use Rattle.std.proofs.Common.{◌⊎◌, ◌≡◌, ◌≢◌, ℕ, ◌+◌, ◌%◌, ◌<◌, ◌++◌, zero, suc, nat_eq, cond, Bool, true, false, List, [], ◌∷◌, length, Option, None, Some, is_some, option_map, slice_set, slice_index_or, refl, sym, ap, subst, ◌∙◌, arith, inl, inr}
+use mathlib.Core.Path.{path_j}
+use native.Mathlib.Nat.{ℕ_set}
 use Rattle.std.proofs.Math.ListN.{length-set}
 use Rattle.std.proofs.lemmas.List.{get_or-set_other, get_or-set_same}
 use Rattle.std.proofs.lemmas.Bool.Decides.{nat_tests}
 use Rattle.ppp_mp.specs.Header.{long_space}
-use Rattle.ppp_mp.specs.Ring.{kept_at, kept_in, view_of, InRing, AreNear, IsNearAll}
+use Rattle.ppp_mp.specs.Ring.{Slotted, kept_at, kept_in, view_of, InRing, AreNear, IsNearAll, emptied, slotted, slot_piece, octets_there}
 use Rattle.ppp_mp.specs.declared.slot_piece.SlotPiece.{SlotPiece}
-use Rattle.ppp_mp.specs.declared.slots.Slotted.{Slotted}
 
 not_this : (slot : Slotted) (number : ℕ) (o : Option SlotPiece) → nat_eq slot.number number ≡ false → cond (nat_eq slot.number number) (Some slot.piece) o ≡ o
 not_this slot number o e = rw e refl
@@ -184,3 +185,75 @@ piece_seen number (Some x) slot is e =
 pub some_seen : (o : Option SlotPiece) → is_some (option_map view_of o) ≡ true → o ≢ None
 some_seen None e = absurd (cc)
 some_seen (Some p) e = λ h. cc
+
+set_there : (slots : List (Option Slotted)) (i : ℕ) → slice_set slots i (slice_index_or slots i None) ≡ slots
+set_there [] i = refl
+set_there (x ∷ slots) zero = refl
+set_there (x ∷ slots) (suc i) = ap (λ (l : List (Option Slotted)). x ∷ l) (set_there slots i)
+
+-- A slot that is emptied keeps nothing, or what it kept where that has another number.
+emptied_cases : (number : ℕ) (o : Option Slotted) → ((emptied number o ≡ None) × (kept_in number o ≢ None)) ⊎ ((emptied number o ≡ o) × (kept_in number o ≡ None))
+emptied_cases number None = inr (refl, refl)
+emptied_cases number (Some slot) = by_test (nat_eq slot.number number) refl
+  where
+    by_test : (t : Bool) → nat_eq slot.number number ≡ t → ((emptied number (Some slot) ≡ None) × (kept_in number (Some slot) ≢ None)) ⊎ ((emptied number (Some slot) ≡ Some slot) × (kept_in number (Some slot) ≡ None))
+    by_test true e = inl (rw e refl, λ none. (let there : kept_in number (Some slot) ≡ Some slot.piece = rw e refl in let f : None ≡ Some slot.piece = sym none ∙ there in cc))
+    by_test false e = inr (rw e refl, rw e refl)
+
+pub emptied_ring : (i number : ℕ) (slots : List (Option Slotted)) → InRing long_space 0 slots → InRing long_space 0 (slice_set slots i (emptied number (slice_index_or slots i None)))
+emptied_ring i number slots ring = elim (emptied_cases number (slice_index_or slots i None)) [
+  | inl t ↦ subst (λ (v : Option Slotted). InRing long_space 0 (slice_set slots i v)) (sym t.0) (ring_none 0 i slots ring)
+  | inr t ↦ subst (λ (v : Option Slotted). InRing long_space 0 (slice_set slots i v)) (sym t.0) (subst (λ (l : List (Option Slotted)). InRing long_space 0 l) (sym (set_there slots i)) ring)
+]
+
+pub emptied_kept : (number other : ℕ) (slots : List (Option Slotted)) → length slots ≡ 128 → InRing long_space 0 slots → number < long_space
+    → kept_at other (slice_set slots (number % 128) (emptied number (slice_index_or slots (number % 128) None))) ≡ cond (nat_eq other number) None (kept_at other slots)
+emptied_kept number other slots long ring within = elim (emptied_cases number (slice_index_or slots (number % 128) None)) [
+  | inl t ↦ ap (λ (v : Option Slotted). kept_at other (slice_set slots (number % 128) v)) t.0 ∙ clear_kept number other slots long ring within t.1
+  | inr t ↦
+      ap (λ (v : Option Slotted). kept_at other (slice_set slots (number % 128) v)) t.0
+      ∙ ap (kept_at other) (set_there slots (number % 128))
+      ∙ none_kept number other slots (at_kept number slots long ring ∙ t.1)
+]
+
+-- The count of a piece's octets is one, however it is known.
+abbrev piece_of : (first last : Bool) (octets : List ℕ) (len : ℕ) → len ≡ length octets → SlotPiece
+piece_of first last octets len counted = record { first = first; last = last; len = len; octets = octets; counted = counted }
+
+same_counted : (first last : Bool) (octets : List ℕ) (len : ℕ) → length octets ≡ len → (counted : len ≡ length octets) → slot_piece first last octets ≡ piece_of first last octets len counted
+same_counted first last octets len is =
+    path_j (λ (n : ℕ) (q : length octets ≡ n). (counted : n ≡ length octets) → slot_piece first last octets ≡ piece_of first last octets n counted)
+    (λ counted. ap (piece_of first last octets (length octets)) (ℕ_set (length octets) (length octets) refl counted)) is
+
+-- A piece is what its marks and octets make.
+pub piece_is : (p : SlotPiece) (octets : List ℕ) → octets ≡ p.octets → slot_piece p.first p.last octets ≡ p
+piece_is p octets same = ap (slot_piece p.first p.last) same ∙ same_counted p.first p.last p.octets p.len (sym p.counted) p.counted
+
+kept_slotted : (number n : ℕ) (first last : Bool) (octets : List ℕ) (kept : Bool) → is_some (kept_in number (slotted kept n first last octets)) ≡ true → Some (slot_piece first last octets) ≡ kept_in number (slotted kept n first last octets)
+kept_slotted number n first last octets false e = absurd (cc)
+kept_slotted number n first last octets true e = by_test (nat_eq n number) e
+  where
+    by_test : (t : Bool) → is_some (cond t (Some (slot_piece first last octets)) None) ≡ true → Some (slot_piece first last octets) ≡ cond t (Some (slot_piece first last octets)) None
+    by_test true e = refl
+    by_test false e = absurd (cc)
+
+-- The piece of a slot, copied whole.
+pub whole_piece : (number n : ℕ) (first last kept : Bool) (octets : List ℕ) (p : SlotPiece) (now : Option Slotted) → p.first ≡ first → p.last ≡ last → p.octets ≡ octets → slotted kept n first last octets ≡ now → is_some (kept_in number now) ≡ true
+    → Some p ≡ kept_in number now
+whole_piece number n first last kept octets p now first_is last_is octets_is now_is has =
+    let has' : is_some (kept_in number (slotted kept n first last octets)) ≡ true = ap (λ (o : Option Slotted). is_some (kept_in number o)) now_is ∙ has in
+    let made : slot_piece p.first p.last p.octets ≡ p = piece_is p p.octets refl in
+    ap (λ (q : SlotPiece). Some q) (sym made)
+    ∙ ap (λ (b : Bool). Some (slot_piece b p.last p.octets)) first_is
+    ∙ ap (λ (b : Bool). Some (slot_piece first b p.octets)) last_is
+    ∙ ap (λ (l : List ℕ). Some (slot_piece first last l)) octets_is
+    ∙ kept_slotted number n first last octets kept has'
+    ∙ ap (kept_in number) now_is
+
+pub octets_seen : (o : Option SlotPiece) (octets : List ℕ) → Some octets ≡ option_map (λ (p : SlotPiece). p.octets) o → octets ≡ octets_there o
+octets_seen None octets e = absurd (cc)
+octets_seen (Some p) octets e = cc
+
+pub no_octets_seen : (o : Option SlotPiece) → None ≡ option_map (λ (p : SlotPiece). p.octets) o → [] ≡ octets_there o
+no_octets_seen None e = refl
+no_octets_seen (Some p) e = absurd (cc)

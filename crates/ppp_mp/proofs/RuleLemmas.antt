@@ -5,9 +5,11 @@ use Rattle.std.proofs.lemmas.Bool.{cases_lt}
 use Rattle.std.proofs.lemmas.Bool.Decides.{nat_tests}
 use Rattle.ppp_mp.specs.Pieces.{Piece, piece_at, joined, octets_of, Begun}
 use Rattle.ppp_mp.specs.Delivered.{Gathering, Rule, AtRest, ruled, loses, completes}
-use Rattle.ppp_mp.specs.Places.{place, rule_at, goes_on_there, Scanned, BegunThere, joined_there, octets_there}
+use Rattle.ppp_mp.specs.Ring.{octets_there}
+use Rattle.ppp_mp.specs.Places.{place, rule_at, goes_on_there, Scanned, BegunThere, joined_there}
 use Rattle.ppp_mp.specs.Moves.{IsMoved}
-use Rattle.ppp_mp.specs.StandsFor.{KeepsNow, waiting, stopped, counted}
+use Rattle.ppp_mp.specs.Facts.{KeepsFacts, waiting}
+use Rattle.ppp_mp.specs.StandsFor.{stopped, counted}
 use Rattle.ppp_mp.specs.Header.{long_space}
 use Rattle.ppp_mp.specs.declared.slot_piece.SlotPiece.{SlotPiece}
 use Rattle.ppp_mp.specs.declared.places.RuleNow.{RuleNow}
@@ -37,10 +39,10 @@ pub ruled-made : (mrru below : ℕ) (s : Gathering) (bound len n : ℕ) (o : Opt
 ruled-made mrru below s bound len n None is = rw (is, below-shift s.least len below) (none_case mrru s (len + 1) (nat_lt len (below - s.least)))
 ruled-made mrru below s bound len n (Some p) is = some_case mrru s (max len 1) (len + 1) (goes_on_there p len) p.last
 
-pub begun_is : (g : GatherFacts) (s : Gathering) → KeepsNow long_space g s → (len : ℕ) → BegunThere g.places.pieces len → Begun s.kept s.least len
+pub begun_is : (g : GatherFacts) (s : Gathering) → KeepsFacts long_space g s → (len : ℕ) → BegunThere g.places.pieces len → Begun s.kept s.least len
 begun_is g s k len begun = λ i below. let t = begun i below in (waiting (s.least + i) t.0, k.places i ∙ ap (option_map (waiting (s.least + i))) t.1, t.2, t.3)
 
-pub scanned_rule : (mrru below : ℕ) (g : GatherFacts) (s new : Gathering) (bound : ℕ) (rule : RuleNow) → KeepsNow long_space g s → bound ≡ below - s.least → Scanned g.places.pieces bound rule
+pub scanned_rule : (mrru below : ℕ) (g : GatherFacts) (s new : Gathering) (bound : ℕ) (rule : RuleNow) → KeepsFacts long_space g s → bound ≡ below - s.least → Scanned g.places.pieces bound rule
     → made_by mrru s rule ≡ Some new → Rule mrru below s new
 scanned_rule mrru below g s new bound rule k is scanned makes = record {
   len = scanned.len;
@@ -56,7 +58,7 @@ pub inside_rests : (mrru below : ℕ) (s : Gathering) (len : ℕ) (p : Piece) �
 inside_rests mrru below s zero p first last = rw (first, last) refl
 inside_rests mrru below s (suc len) p first last = let e : (suc len == 0) ≡ false = grind (arith, nat_tests) in rw (first, last, e) refl
 
-pub scanned_rests : (mrru below : ℕ) (g : GatherFacts) (s : Gathering) (bound : ℕ) → KeepsNow long_space g s → bound ≡ below - s.least → Scanned g.places.pieces bound Rests → AtRest mrru below s
+pub scanned_rests : (mrru below : ℕ) (g : GatherFacts) (s : Gathering) (bound : ℕ) → KeepsFacts long_space g s → bound ≡ below - s.least → Scanned g.places.pieces bound Rests → AtRest mrru below s
 scanned_rests mrru below g s bound k is scanned = λ len begun. elim (cases_lt len scanned.len) [
   | inl before ↦
       let t = begun_is g s k scanned.len scanned.begun len before in
@@ -81,7 +83,7 @@ octets-same : (n : ℕ) (o : Option SlotPiece) → octets_of (option_map (waitin
 octets-same n None = refl
 octets-same n (Some p) = refl
 
-pub joined-same : (g : GatherFacts) (s : Gathering) → KeepsNow long_space g s → (len : ℕ) → joined s.kept s.least len ≡ joined_there g.places.pieces len
+pub joined-same : (g : GatherFacts) (s : Gathering) → KeepsFacts long_space g s → (len : ℕ) → joined s.kept s.least len ≡ joined_there g.places.pieces len
 joined-same g s k zero = refl
 joined-same g s k (suc len) =
     let e : octets_of (piece_at (s.least + len) s.kept) ≡ octets_there (place g.places.pieces len) = ap octets_of (k.places len) ∙ octets-same (s.least + len) (place g.places.pieces len) in
@@ -96,8 +98,8 @@ overs-move : (a b : ℕ) (os : List (Option ℕ)) → map (option_map (λ n. n -
 overs-move a b [] = refl
 overs-move a b (o ∷ os) = let e = less-less a b o in let f = overs-move a b os in rw (e, f) refl
 
-pub moves : (old new : GatherFacts) (s s' : Gathering) (count : ℕ) → KeepsNow long_space old s → IsMoved long_space old new count
-    → s'.least ≡ s.least + count → s'.kept ≡ s.kept → s'.brought ≡ s.brought → new.counts ≡ counted s' → KeepsNow long_space new s'
+pub moves : (old new : GatherFacts) (s s' : Gathering) (count : ℕ) → KeepsFacts long_space old s → IsMoved long_space old new count
+    → s'.least ≡ s.least + count → s'.kept ≡ s.kept → s'.brought ≡ s.brought → new.counts ≡ counted s' → KeepsFacts long_space new s'
 moves old new s s' count k moved least kept brought counts = record {
   base = moved.base ∙ rw (k.base, least) (mod-add-mod s.least long_space count);
   raised = omega (arith, k.raised);

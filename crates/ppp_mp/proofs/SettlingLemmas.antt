@@ -7,7 +7,8 @@ use Rattle.ppp_mp.specs.Pieces.{joined, piece_at}
 use Rattle.ppp_mp.specs.Delivered.{Gathering, Rule, Rules, AtRest, loses, completes, ruled}
 use Rattle.ppp_mp.specs.Places.{place, AreMissing, Scanned, joined_there, tally, waits, ends, rule_at, goes_on_there}
 use Rattle.ppp_mp.specs.Moves.{IsMoved, IsKept, HasCompleted, HasSettled, Holds}
-use Rattle.ppp_mp.specs.StandsFor.{waiting, KeepsNow, stopped, counted, with_looks}
+use Rattle.ppp_mp.specs.Facts.{waiting, KeepsFacts, with_looks_at}
+use Rattle.ppp_mp.specs.StandsFor.{stopped, counted}
 use Rattle.ppp_mp.specs.declared.slot_piece.SlotPiece.{SlotPiece}
 use Rattle.ppp_mp.specs.declared.places.RuleNow.{RuleNow}
 use Rattle.ppp_mp.specs.declared.places.RuleNow.TheVariants.{Rests, Loses, Completes}
@@ -27,12 +28,12 @@ pub settling_begins : (g : GatherFacts) (packets : List (List ℕ)) (bound : ℕ
 settling_begins g packets bound = record { mrru = refl; room = omega arith; goes = λ before s below holds is. (0, s, refl, holds, is) }
 
 -- Looks change nothing of what is kept.
-pub looks_keeps : (g : GatherFacts) (looks : ℕ) (s : Gathering) → KeepsNow long_space g s → KeepsNow long_space (with_looks looks g) s
+pub looks_keeps : (g : GatherFacts) (looks : ℕ) (s : Gathering) → KeepsFacts long_space g s → KeepsFacts long_space (with_looks_at looks g) s
 looks_keeps g looks s k = record { base = k.base; raised = k.raised; places = k.places; overs = k.overs; counts = k.counts }
 
-pub settling_looked : (first : GatherFacts) (packets0 : List (List ℕ)) (bound0 : ℕ) (g g' : GatherFacts) (packets : List (List ℕ)) (bound looks : ℕ) → g' ≡ with_looks looks g → Settling first packets0 bound0 g packets bound → Settling first packets0 bound0 g' packets bound
+pub settling_looked : (first : GatherFacts) (packets0 : List (List ℕ)) (bound0 : ℕ) (g g' : GatherFacts) (packets : List (List ℕ)) (bound looks : ℕ) → g' ≡ with_looks_at looks g → Settling first packets0 bound0 g packets bound → Settling first packets0 bound0 g' packets bound
 settling_looked first packets0 bound0 g g' packets bound looks same so_far =
-    let now : Settling first packets0 bound0 (with_looks looks g) packets bound = record {
+    let now : Settling first packets0 bound0 (with_looks_at looks g) packets bound = record {
       mrru = so_far.mrru;
       room = so_far.room;
       goes = λ before s below holds is.
@@ -58,7 +59,7 @@ settling_loses first packets0 bound0 g packets bound g' count bound' so_far scan
       let t = so_far.goes before s below holds is in
       let mid : Gathering = t.1 in
       let bound_is : bound ≡ below - mid.least = t.4 in
-      let keeps : KeepsNow long_space g mid = t.3.keeps in
+      let keeps : KeepsFacts long_space g mid = t.3.keeps in
       let given : mid.given ≡ before ++ packets = t.3.given in
       let rule : Rule g.mrru below mid (loses mid count) = scanned_rule g.mrru below g mid (loses mid count) bound (Loses count) keeps bound_is scanned refl in
       let P = λ (m : ℕ). Rule m below mid (loses mid count) in (
@@ -111,7 +112,7 @@ settling_misses first packets0 bound0 g packets bound g' count bound' so_far mis
       let t = so_far.goes before s below holds is in
       let mid : Gathering = t.1 in
       let bound_is : bound ≡ below - mid.least = t.4 in
-      let keeps : KeepsNow long_space g mid = t.3.keeps in
+      let keeps : KeepsFacts long_space g mid = t.3.keeps in
       let given : mid.given ≡ before ++ packets = t.3.given in
       let some : 0 < count = missing.some in
       let most : count ≤ bound = missing.below in
@@ -272,7 +273,7 @@ settling_completes first packets0 bound0 g packets bound g' packets' count bound
       let t = so_far.goes before s below holds is in
       let mid : Gathering = t.1 in
       let bound_is : bound ≡ below - mid.least = t.4 in
-      let keeps : KeepsNow long_space g mid = t.3.keeps in
+      let keeps : KeepsFacts long_space g mid = t.3.keeps in
       let rule : Rule g.mrru below mid (completes g.mrru mid count) = scanned_rule g.mrru below g mid (completes g.mrru mid count) bound (Completes count) keeps bound_is scanned refl in
       let after = completes_holds before g g' packets packets' mid count t.3 moved completed in
       let least : (completes g.mrru mid count).least ≡ mid.least + count = after.1 in

@@ -9,7 +9,8 @@ use Rattle.ppp_mp.specs.Pieces.{Piece, piece_at, joined, Begun}
 use Rattle.ppp_mp.specs.Delivered.{Gathering, AtRest, Keeps, Rule, Rules, Settles, ruled, behind, goes_on, loses, completes, lesser, lowest, mark, brings, joins, leaves, keeps_piece}
 use Rattle.ppp_mp.specs.Places.{place}
 use Rattle.ppp_mp.specs.Moves.{HasTaken, HasSettledNow, HasSettled, IsMoved, IsKept, arrived}
-use Rattle.ppp_mp.specs.StandsFor.{KeepsNow, stopped, waiting, counted, overs_of}
+use Rattle.ppp_mp.specs.Facts.{KeepsFacts, waiting}
+use Rattle.ppp_mp.specs.StandsFor.{stopped, counted, overs_of}
 use Rattle.ppp_mp.specs.Header.{long_space}
 use Rattle.ppp_mp.specs.declared.slot_piece.SlotPiece.{SlotPiece}
 use Rattle.ppp_mp.specs.declared.facts.GatherFacts.{GatherFacts}
@@ -59,7 +60,7 @@ overs_brought s overs at n ahead is ahead_is =
     let most : max (n - s.least) (unwrap_or (slice_index_or s.brought at None) 0 - s.least) ≡ max n (unwrap_or (slice_index_or s.brought at None) 0) - s.least = omega arith in
     rw (is, ahead_is, here, most, at_is) (sym (map-set f s.brought at (Some (max n (unwrap_or (slice_index_or s.brought at None) 0)))))
 
-pub keeps_with : (g g' : GatherFacts) (s s' : Gathering) → KeepsNow long_space g s → g'.places.base ≡ g.places.base → ((i : ℕ) → place g'.places.pieces i ≡ place g.places.pieces i) → s'.least ≡ s.least → s'.kept ≡ s.kept → g'.overs ≡ overs_of s' → g'.counts ≡ counted s' → KeepsNow long_space g' s'
+pub keeps_with : (g g' : GatherFacts) (s s' : Gathering) → KeepsFacts long_space g s → g'.places.base ≡ g.places.base → ((i : ℕ) → place g'.places.pieces i ≡ place g.places.pieces i) → s'.least ≡ s.least → s'.kept ≡ s.kept → g'.overs ≡ overs_of s' → g'.counts ≡ counted s' → KeepsFacts long_space g' s'
 keeps_with g g' s s' k base slots least kept overs counts = record {
   base = rw (base, least) k.base;
   raised = rw least k.raised;
@@ -155,14 +156,14 @@ abbrev pub over_now : GatherFacts → (at ahead : ℕ) → List (Option ℕ)
 over_now g at ahead = slice_set g.overs at (Some (max ahead (unwrap_or (slice_index_or g.overs at None) 0)))
 
 pub taken_old : (g g2 g3 : GatherFacts) (packets : List (List ℕ)) (s : Gathering) (at ahead field : ℕ) (p : SlotPiece)
-    → KeepsNow long_space g s → field < long_space → ahead < long_space → (g.places.base + ahead) % long_space ≡ field → 8388608 ≤ ahead
+    → KeepsFacts long_space g s → field < long_space → ahead < long_space → (g.places.base + ahead) % long_space ≡ field → 8388608 ≤ ahead
     → g2.mrru ≡ g.mrru → g2.places.base ≡ g.places.base → g2.places.pieces ≡ g.places.pieces → g2.overs ≡ over_now g at 0 → g2.counts ≡ record g.counts { old = stopped (g.counts.old + 1) }
     → HasSettledNow long_space g2 g3 [] packets → HasTaken long_space g.mrru s (at + 1) (arrived field p) Old g3 packets
 taken_old g g2 g3 packets s at ahead field p k field_in ahead_in same half mrru base slots overs counts settled =
     let n : ℕ = s.least + ahead - long_space in
     let raised : long_space ≤ s.least = k.raised in
     let s2 : Gathering = record (brings s (at + 1) (s.least + ahead - long_space)) { old = s.old + 1 } in
-    let keeps2 : KeepsNow long_space g2 s2 = keeps_with g g2 s s2 k base (λ i. ap (λ ps. place ps i) slots) refl refl
+    let keeps2 : KeepsFacts long_space g2 s2 = keeps_with g g2 s s2 k base (λ i. ap (λ ps. place ps i) slots) refl refl
     (overs ∙ overs_brought s g.overs at (s.least + ahead - long_space) 0 k.overs (omega arith)) (old-counts g g2 s k.counts counts) in
     let r = settled s.given s2 (record { keeps = keeps2; given = sym (append-nil s.given) }) in
     let back : (s.least + ahead - long_space) + long_space ≡ s.least + ahead = omega arith in
@@ -188,12 +189,12 @@ none-is None e = refl
 none-is (Some p) e = absurd (cc)
 
 pub taken_doubled : (g g2 g3 : GatherFacts) (packets : List (List ℕ)) (s : Gathering) (at ahead field : ℕ) (p : SlotPiece)
-    → KeepsNow long_space g s → field < long_space → (g.places.base + ahead) % long_space ≡ field → ahead < 8388608 → is_some (place g.places.pieces ahead) ≡ true
+    → KeepsFacts long_space g s → field < long_space → (g.places.base + ahead) % long_space ≡ field → ahead < 8388608 → is_some (place g.places.pieces ahead) ≡ true
     → g2.mrru ≡ g.mrru → g2.places.base ≡ g.places.base → g2.places.pieces ≡ g.places.pieces → g2.overs ≡ over_now g at ahead → g2.counts ≡ record g.counts { doubled = stopped (g.counts.doubled + 1) }
     → HasSettledNow long_space g2 g3 [] packets → HasTaken long_space g.mrru s (at + 1) (arrived field p) Doubled g3 packets
 taken_doubled g g2 g3 packets s at ahead field p k field_in same half there mrru base slots overs counts settled =
     let s2 : Gathering = record (brings s (at + 1) (s.least + ahead)) { doubled = s.doubled + 1 } in
-    let keeps2 : KeepsNow long_space g2 s2 = keeps_with g g2 s s2 k base (λ i. ap (λ ps. place ps i) slots) refl refl
+    let keeps2 : KeepsFacts long_space g2 s2 = keeps_with g g2 s s2 k base (λ i. ap (λ ps. place ps i) slots) refl refl
     (overs ∙ overs_brought s g.overs at (s.least + ahead) ahead k.overs (omega arith)) (doubled-counts g g2 s k.counts counts) in
     let r = settled s.given s2 (record { keeps = keeps2; given = sym (append-nil s.given) }) in
     let small : field % long_space ≡ field = omega arith in
@@ -217,8 +218,8 @@ put-case : (n m i d : ℕ) (p : SlotPiece) (o : Option SlotPiece) (old : Option 
 put-case n m i d p o old true same is = let e = same refl in rw e refl
 put-case n m i d p o old false same is = is
 
-pub put_keeps : (g g' : GatherFacts) (s : Gathering) (n d : ℕ) (p : SlotPiece) → KeepsNow long_space g s → n ≡ s.least + d → g'.places.base ≡ g.places.base → ((j : ℕ) → place g'.places.pieces j ≡ (cond (nat_eq j d) (Some p) (place g.places.pieces j)))
-    → g'.overs ≡ g.overs → g'.counts ≡ g.counts → KeepsNow long_space g' (keeps_piece (waiting n p) s)
+pub put_keeps : (g g' : GatherFacts) (s : Gathering) (n d : ℕ) (p : SlotPiece) → KeepsFacts long_space g s → n ≡ s.least + d → g'.places.base ≡ g.places.base → ((j : ℕ) → place g'.places.pieces j ≡ (cond (nat_eq j d) (Some p) (place g.places.pieces j)))
+    → g'.overs ≡ g.overs → g'.counts ≡ g.counts → KeepsFacts long_space g' (keeps_piece (waiting n p) s)
 put_keeps g g' s n d p k is base slots overs counts = record {
   base = base ∙ k.base;
   raised = k.raised;
@@ -239,7 +240,7 @@ nothing-waits n None e = refl
 nothing-waits n (Some p) e = absurd (cc)
 
 pub taken_kept : (g g3 g4 g5 g6 g7 : GatherFacts) (packets3 packets7 : List (List ℕ)) (s : Gathering) (at ahead field bound left far d : ℕ) (p : SlotPiece)
-    → KeepsNow long_space g s → AtRest g.mrru (mark s) s → field < long_space → (g.places.base + ahead) % long_space ≡ field → ahead < 8388608 → is_some (place g.places.pieces ahead) ≡ false
+    → KeepsFacts long_space g s → AtRest g.mrru (mark s) s → field < long_space → (g.places.base + ahead) % long_space ≡ field → ahead < 8388608 → is_some (place g.places.pieces ahead) ≡ false
     → bound ≡ max (unwrap_or (lowest g.overs) 0) (ahead - 127) → HasSettled long_space bound g g3 [] packets3
     → left < long_space → (g3.places.base + left) % long_space ≡ field → far ≡ left - 127 → IsMoved long_space g3 g4 far → g4.counts ≡ record g3.counts { lost = stopped (g3.counts.lost + far) }
     → d ≡ left - far → g5.places.base ≡ g4.places.base → IsKept g4.places.pieces g5.places.pieces d p → g5.overs ≡ g4.overs → g5.counts ≡ g4.counts
@@ -251,21 +252,21 @@ taken_kept g g3 g4 g5 g6 g7 packets3 packets7 s at ahead field bound left far d 
     let bound_now : bound ≡ max (mark s) (s.least + ahead - 127) - s.least =
     bound-same s.least ahead (mark s) bound (unwrap_or (lowest g.overs) 0) (ap (λ os. unwrap_or (lowest os) 0) k.overs ∙ bound_is s) bound_set in
     let r3 = settled3 s.given s (max (mark s) (s.least + ahead - 127)) (record { keeps = k; given = sym (append-nil s.given) }) bound_now in
-    let keeps3 : KeepsNow long_space g3 r3.0 = r3.2.keeps in
+    let keeps3 : KeepsFacts long_space g3 r3.0 = r3.2.keeps in
     let goes : Goes (s.least + ahead) s r3.0 = rules_go (s.least + ahead) g.mrru (max (mark s) (s.least + ahead - 127)) s r3.0 r3.1.count r3.1.rules (omega arith) (omega arith) none in
     let le : r3.0.least ≤ s.least + ahead = goes.least in
     let up : s.least ≤ r3.0.least = goes.more in
     let number_is : r3.0.least + left ≡ s.least + ahead = mod_unique r3.0.least (r3.0.least + left) (s.least + ahead) (omega arith) le (omega arith) (omega arith)
     (full_above r3.0.least g3.places.base left field keeps3.base same3 ∙ sym (full_above s.least g.places.base ahead field k.base same)) in
     let far_is : far ≡ (s.least + ahead - 127) - r3.0.least = omega arith in
-    let keeps4 : KeepsNow long_space g4 (loses r3.0 far) = moves g3 g4 r3.0 (loses r3.0 far) far keeps3 moved refl refl refl (lost-counts g3 g4 r3.0 far keeps3.counts counts4) in
+    let keeps4 : KeepsFacts long_space g4 (loses r3.0 far) = moves g3 g4 r3.0 (loses r3.0 far) far keeps3 moved refl refl refl (lost-counts g3 g4 r3.0 far keeps3.counts counts4) in
     let place_is : s.least + ahead ≡ (r3.0.least + far) + d = omega arith in
     let free : piece_at (r3.0.least + far + d) r3.0.kept ≡ None = ap (λ n. piece_at n r3.0.kept) (sym place_is) ∙ ap (piece_at (s.least + ahead)) goes.kept ∙ none in
     let empty : place g4.places.pieces d ≡ None = nothing-waits (r3.0.least + far + d) (place g4.places.pieces d) (sym (keeps4.places d) ∙ free) in
     let s5 : Gathering = keeps_piece (waiting (s.least + ahead) p) (loses r3.0 far) in
-    let keeps5 : KeepsNow long_space g5 (keeps_piece (waiting (s.least + ahead) p) (loses r3.0 far)) = put_keeps g4 g5 (loses r3.0 far) (s.least + ahead) d p keeps4 place_is base5 (places5.empty empty) overs5 counts5 in
+    let keeps5 : KeepsFacts long_space g5 (keeps_piece (waiting (s.least + ahead) p) (loses r3.0 far)) = put_keeps g4 g5 (loses r3.0 far) (s.least + ahead) d p keeps4 place_is base5 (places5.empty empty) overs5 counts5 in
     let d_is : d ≡ (s.least + ahead) - (r3.0.least + far) = omega arith in
-    let keeps6 : KeepsNow long_space g6 (brings (keeps_piece (waiting (s.least + ahead) p) (loses r3.0 far)) (at + 1) (s.least + ahead)) =
+    let keeps6 : KeepsFacts long_space g6 (brings (keeps_piece (waiting (s.least + ahead) p) (loses r3.0 far)) (at + 1) (s.least + ahead)) =
     keeps_with g5 g6 s5 (brings s5 (at + 1) (s.least + ahead)) keeps5 base6 (λ i. ap (λ ps. place ps i) places6) refl refl
     (overs6 ∙ overs_brought s5 g5.overs at (s.least + ahead) d keeps5.overs d_is) (counts6 ∙ keeps5.counts) in
     let r7 = settled7 s.given (brings (keeps_piece (waiting (s.least + ahead) p) (loses r3.0 far)) (at + 1) (s.least + ahead)) (record { keeps = keeps6; given = r3.2.given }) in
@@ -299,10 +300,10 @@ is-some-less least None = refl
 is-some-less least (Some n) = refl
 
 -- Whether a link is a member can be told from what is kept.
-pub member-is : (g : GatherFacts) (s : Gathering) (i : ℕ) → KeepsNow long_space g s → is_some (slice_index_or g.overs i None) ≡ is_some (slice_index_or s.brought i None)
+pub member-is : (g : GatherFacts) (s : Gathering) (i : ℕ) → KeepsFacts long_space g s → is_some (slice_index_or g.overs i None) ≡ is_some (slice_index_or s.brought i None)
 member-is g s i k = ap (λ os. is_some (slice_index_or os i None)) k.overs ∙ ap is_some (get-less s.least s.brought i) ∙ is-some-less s.least (slice_index_or s.brought i None)
 
-pub joins_keeps : (g g' : GatherFacts) (s : Gathering) (link : ℕ) → KeepsNow long_space g s → is_some (slice_index_or g.overs (link - 1) None) ≡ false → g' ≡ record g { overs = slice_set g.overs (link - 1) (Some 0) } → KeepsNow long_space g' (joins s link)
+pub joins_keeps : (g g' : GatherFacts) (s : Gathering) (link : ℕ) → KeepsFacts long_space g s → is_some (slice_index_or g.overs (link - 1) None) ≡ false → g' ≡ record g { overs = slice_set g.overs (link - 1) (Some 0) } → KeepsFacts long_space g' (joins s link)
 joins_keeps g g' s link k out is =
     let s' : Gathering = record s { brought = slice_set s.brought (link - 1) (Some (s.least - 1)) } in
     let none : is_some (slice_index_or s.brought (link - 1) None) ≡ false = sym (member-is g s (link - 1) k) ∙ out in
@@ -310,13 +311,13 @@ joins_keeps g g' s link k out is =
     let zero_is : (s.least - 1) - s.least ≡ 0 = omega arith in
     let overs : g'.overs ≡ overs_of s' =
     ap (λ (x : GatherFacts). x.overs) is ∙ ap (λ os. slice_set os (link - 1) (Some 0)) k.overs ∙ ap (λ n. slice_set (overs_of s) (link - 1) (Some n)) (sym zero_is) ∙ sym (map-set f s.brought (link - 1) (Some (s.least - 1))) in
-    let keeps : KeepsNow long_space g' s' = keeps_with g g' s s' k (ap (λ (x : GatherFacts). x.places.base) is) (λ i. ap (λ (x : GatherFacts). place x.places.pieces i) is) refl refl overs (ap (λ (x : GatherFacts). x.counts) is ∙ k.counts) in
+    let keeps : KeepsFacts long_space g' s' = keeps_with g g' s s' k (ap (λ (x : GatherFacts). x.places.base) is) (λ i. ap (λ (x : GatherFacts). place x.places.pieces i) is) refl refl overs (ap (λ (x : GatherFacts). x.counts) is ∙ k.counts) in
     rw none keeps
 
-pub joins_same : (g : GatherFacts) (s : Gathering) (link : ℕ) → KeepsNow long_space g s → is_some (slice_index_or g.overs (link - 1) None) ≡ true → KeepsNow long_space g (joins s link)
+pub joins_same : (g : GatherFacts) (s : Gathering) (link : ℕ) → KeepsFacts long_space g s → is_some (slice_index_or g.overs (link - 1) None) ≡ true → KeepsFacts long_space g (joins s link)
 joins_same g s link k in_it = let some : is_some (slice_index_or s.brought (link - 1) None) ≡ true = sym (member-is g s (link - 1) k) ∙ in_it in rw some k
 
-pub leaves_keeps : (g g' : GatherFacts) (s : Gathering) (link : ℕ) → KeepsNow long_space g s → g' ≡ record g { overs = slice_set g.overs (link - 1) None } → KeepsNow long_space g' (leaves s link)
+pub leaves_keeps : (g g' : GatherFacts) (s : Gathering) (link : ℕ) → KeepsFacts long_space g s → g' ≡ record g { overs = slice_set g.overs (link - 1) None } → KeepsFacts long_space g' (leaves s link)
 leaves_keeps g g' s link k is =
     let f = λ (o : Option ℕ). option_map (λ n. n - s.least) o in
     let overs : g'.overs ≡ overs_of (leaves s link) = ap (λ (x : GatherFacts). x.overs) is ∙ ap (λ os. slice_set os (link - 1) None) k.overs ∙ sym (map-set f s.brought (link - 1) None) in

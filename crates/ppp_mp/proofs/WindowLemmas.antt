@@ -1,16 +1,15 @@
 -- The places of pieces that wait in slots.
-use Rattle.std.proofs.Common.{◌≡◌, ◌≢◌, ◌⊎◌, ℕ, ◌+◌, ◌-◌, ◌%◌, ◌<◌, ◌≤◌, ◌++◌, zero, suc, nat_eq, cond, Bool, true, false, List, [], map, Option, None, Some, option_map, append-nil, refl, sym, ap, ◌∙◌, arith, inl, inr}
+use Rattle.std.proofs.Common.{nat_lt, subst, ◌≡◌, ◌≢◌, ◌⊎◌, ℕ, ◌+◌, ◌-◌, ◌%◌, ◌<◌, ◌≤◌, ◌++◌, zero, suc, nat_eq, cond, Bool, true, false, List, [], map, Option, None, Some, option_map, append-nil, refl, sym, ap, ◌∙◌, arith, inl, inr}
 use Rattle.std.specs.List.{range_with_len}
 use Rattle.std.proofs.lemmas.List.{get_or_past}
 use Rattle.std.proofs.lemmas.List.FromFn.{get_or-map-range_with_len, length-map-range_with_len}
 use Rattle.std.proofs.lemmas.Bool.{cases_lt}
 use Rattle.std.proofs.lemmas.Bool.Decides.{nat_tests}
 use Rattle.ppp_mp.specs.Header.{long_space}
-use Rattle.ppp_mp.specs.Ring.{kept_at, view_of, IsNearAll}
-use Rattle.ppp_mp.specs.Places.{place, pieces_from, IsWindow, joined_there, octets_there}
+use Rattle.ppp_mp.specs.Ring.{Slotted, kept_at, view_of, IsNearAll, octets_there}
+use Rattle.ppp_mp.specs.Places.{place, pieces_from, IsWindow, joined_there}
 use Rattle.ppp_mp.specs.declared.slot_piece.SlotPiece.{SlotPiece}
 use Rattle.ppp_mp.specs.declared.slot_piece.SlotView.{SlotView}
-use Rattle.ppp_mp.specs.declared.slots.Slotted.{Slotted}
 
 pub pieces_at : (base i : ℕ) (slots : List (Option Slotted)) → i < 128 → place (pieces_from long_space base slots) i ≡ kept_at ((base + i) % long_space) slots
 unfolding pieces_from
@@ -220,3 +219,23 @@ empty_places slots none i = elim (cases_lt i 128) [
   | inl below ↦ pieces_at 0 i slots below ∙ none ((0 + i) % long_space) (omega arith)
   | inr out ↦ pieces_past 0 i slots out
 ]
+
+-- Where the end is not above the gap, no piece waits.
+pub narrow : (base gap end gap' : ℕ) (slots : List (Option Slotted)) → IsWindow long_space base gap end slots → gap' ≡ cond (nat_lt gap end) gap 128 → IsWindow long_space base gap' end slots
+narrow base gap end gap' slots w is = by_test (nat_lt gap end) refl is
+  where
+    by_test : (t : Bool) → nat_lt gap end ≡ t → gap' ≡ cond t gap 128 → IsWindow long_space base gap' end slots
+    by_test true e is = subst (λ (n : ℕ). IsWindow long_space base n end slots) (sym is) w
+    by_test false e is =
+        let le : end ≤ gap = grind (arith, nat_tests) in
+        record {
+          based = w.based;
+          low_within = omega arith;
+          high_within = w.high_within;
+          low = λ i below. elim (cases_lt i gap) [
+            | inl less ↦ w.low i less
+            | inr more ↦ w.high i (omega arith) (omega arith)
+          ];
+          high = w.high;
+          window = w.window;
+        }

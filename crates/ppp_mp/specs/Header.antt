@@ -1,6 +1,6 @@
 -- The header of a piece (RFC 1990, section 3): B, E and bits of zero, then its number, big-endian. The long form has four
 -- octets, and its numbers begin anew behind 2^24.
-use Rattle.std.specs.Prelude.{ℕ, zero, suc, ◌+◌, ◌-◌, ◌*◌, ◌/◌, ◌%◌, ◌^◌, ◌==◌, nat_lt, Bool, if◌then◌else◌, List, [], ◌∷◌, slice_index, take, drop}
+use Rattle.std.specs.Prelude.{◌≡◌, ◌⊎◌, ℕ, zero, suc, ◌+◌, ◌-◌, ◌*◌, ◌/◌, ◌%◌, ◌^◌, ◌==◌, nat_lt, Bool, if◌then◌else◌, List, [], ◌∷◌, slice_index, take, drop}
 use Rattle.std.specs.List.{fold}
 use Rattle.ppp_mp.specs.Delivered.{Fragment}
 
@@ -11,6 +11,11 @@ long_space = 16777216
 -- the octets of the long form
 abbrev pub long_octets : ℕ
 long_octets = 4
+
+-- A number space and the octets of its header: the long form, or the short one, which has two bits of zero and a number of
+-- twelve.
+abbrev pub IsForm : (space octets : ℕ) → Type 0
+IsForm space octets = ((space ≡ long_space) × (octets ≡ long_octets)) ⊎ ((space ≡ 4096) × (octets ≡ 2))
 
 -- a number in so many octets, big-endian
 abbrev pub big_endian : (octets number : ℕ) → List ℕ

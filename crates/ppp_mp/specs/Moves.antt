@@ -2,7 +2,8 @@
 use Rattle.std.specs.Prelude.{◌≡◌, ℕ, ◌+◌, ◌-◌, ◌%◌, ◌≤◌, ◌<◌, List, [], ◌∷◌, ◌++◌, map, min, length, option_map, ◌≢◌, ◌==◌, Some, None, Option, if◌then◌else◌}
 use Rattle.ppp_mp.specs.Delivered.{Gathering, Fragment, Settles, TakesOf, mark}
 use Rattle.ppp_mp.specs.Places.{place, joined_there}
-use Rattle.ppp_mp.specs.StandsFor.{KeepsNow, stopped}
+use Rattle.ppp_mp.specs.StandsFor.{stopped}
+use Rattle.ppp_mp.specs.Facts.{KeepsFacts}
 use Rattle.ppp_mp.specs.declared.slot_piece.SlotPiece.{SlotPiece}
 use Rattle.ppp_mp.specs.declared.counts.PieceNow.{PieceNow}
 use Rattle.ppp_mp.specs.declared.facts.GatherFacts.{GatherFacts}
@@ -24,7 +25,7 @@ pub record IsKept (old new : List (Option SlotPiece)) (i : ℕ) (piece : SlotPie
 
 -- A gatherer keeps a gathering, and these packets are the last that it has given.
 pub record Holds (space : ℕ) (before : List (List ℕ)) (g : GatherFacts) (packets : List (List ℕ)) (s : Gathering) : Type 0 where
-  pub keeps : KeepsNow space g s
+  pub keeps : KeepsFacts space g s
   pub given : s.given ≡ before ++ packets
 
 -- A waiting piece as it arrived.
@@ -34,7 +35,7 @@ arrived field p = record { field = field; first = p.first; last = p.last; octets
 -- A member's piece has been taken, and these packets were given.
 abbrev pub HasTaken : (space mrru : ℕ) (s : Gathering) (link : ℕ) → Fragment → PieceNow → GatherFacts → List (List ℕ) → Type 0
 HasTaken space mrru s link fragment answer g packets =
-    (new : Gathering) × TakesOf space mrru s link fragment answer new × KeepsNow space g new × (new.given ≡ s.given ++ packets)
+    (new : Gathering) × TakesOf space mrru s link fragment answer new × KeepsFacts space g new × (new.given ≡ s.given ++ packets)
 
 -- The rules are applied with M as it is.
 abbrev pub HasSettledNow : (space : ℕ) (old new : GatherFacts) (packets packets' : List (List ℕ)) → Type 0

@@ -1,9 +1,8 @@
 -- The places of waiting pieces, counted from the least number that isn't settled.
 use Rattle.std.specs.Prelude.{◌≡◌, ◌≢◌, ◌<◌, ◌≤◌, ◌==◌, max, min, map, nat_lt, not, if◌then◌else◌, Bool, true, false, ℕ, ◌+◌, ◌-◌, ◌*◌, ◌%◌, zero, suc, List, [], ◌++◌, Option, None, Some, slice_index_or}
 use Rattle.std.specs.List.{range_with_len}
-use Rattle.ppp_mp.specs.Ring.{kept_at}
+use Rattle.ppp_mp.specs.Ring.{Slotted, kept_at, octets_there}
 use Rattle.ppp_mp.specs.declared.slot_piece.SlotPiece.{SlotPiece}
-use Rattle.ppp_mp.specs.declared.slots.Slotted.{Slotted}
 use Rattle.ppp_mp.specs.declared.places.RuleNow.{RuleNow}
 use Rattle.ppp_mp.specs.declared.places.RuleNow.TheVariants.{Rests, Misses, Loses, Completes}
 
@@ -32,10 +31,6 @@ pub record IsWindow (space base gap end : ℕ) (slots : List (Option Slotted)) :
 -- the piece at a place, where one waits there
 abbrev pub place : List (Option SlotPiece) → ℕ → Option SlotPiece
 place places i = slice_index_or places i None
-
-abbrev pub octets_there : Option SlotPiece → List ℕ
-octets_there None = []
-octets_there (Some p) = p.octets
 
 -- the octets of the pieces at the first so many places, joined
 abbrev pub joined_there : List (Option SlotPiece) → ℕ → List ℕ

@@ -1,9 +1,13 @@
 -- The slots of waiting pieces: which numbers are kept, whatever slot each stands in. Numbers are full numbers modulo the
 -- number space.
-use Rattle.std.specs.Prelude.{◌≡◌, ◌≢◌, ◌⊎◌, ℕ, ◌+◌, ◌-◌, ◌%◌, ◌<◌, ◌==◌, ⊤, min, if◌then◌else◌, List, [], ◌∷◌, Option, None, Some}
+use Rattle.std.specs.Prelude.{◌≡◌, ◌≢◌, ◌⊎◌, ℕ, ◌+◌, ◌-◌, ◌%◌, ◌<◌, ◌==◌, ⊤, min, if◌then◌else◌, Bool, refl, List, [], ◌∷◌, length, Option, None, Some}
 use Rattle.ppp_mp.specs.declared.slot_piece.SlotPiece.{SlotPiece}
 use Rattle.ppp_mp.specs.declared.slot_piece.SlotView.{SlotView}
-use Rattle.ppp_mp.specs.declared.slots.Slotted.{Slotted}
+
+-- a piece with its number
+pub record Slotted : Type 0 where
+  pub number : ℕ
+  pub piece : SlotPiece
 
 pub record SlotsNow : Type 0 where
   pub slots : List (Option Slotted)
@@ -41,3 +45,20 @@ InRing space place (Some slot ∷ slots) = (slot.number % 128 ≡ place) × (slo
 abbrev pub kept_in : (number : ℕ) → Option Slotted → Option SlotPiece
 kept_in number None = None
 kept_in number (Some slot) = if slot.number == number then Some slot.piece else None
+
+-- a piece with these marks and octets
+abbrev pub slot_piece : (first last : Bool) → List ℕ → SlotPiece
+slot_piece first last octets = record { first = first; last = last; len = length octets; octets = octets; counted = refl }
+
+-- what stands in a slot, where a piece waits there
+abbrev pub slotted : (kept : Bool) (number : ℕ) (first last : Bool) → List ℕ → Option Slotted
+slotted kept number first last octets = if kept then Some (record { number = number; piece = slot_piece first last octets }) else None
+
+-- what stands in a slot where the piece with this number waits no longer
+abbrev pub emptied : (number : ℕ) → Option Slotted → Option Slotted
+emptied number None = None
+emptied number (Some slot) = if slot.number == number then None else Some slot
+
+abbrev pub octets_there : Option SlotPiece → List ℕ
+octets_there None = []
+octets_there (Some p) = p.octets

@@ -4,15 +4,19 @@ ghost use Rattle.std.specs.Prelude.{◌≡◌, ◌≢◌, ℕ, ◌+◌, ◌*◌,
 ghost use Rattle.ppp_mp.specs.Delivered.{Entry, Joins, Leaves, Gathering, nothing};
 ghost use Rattle.ppp_mp.specs.Header.{fragment_of, long_octets, long_space};
 ghost use Rattle.ppp_mp.specs.Moves.{arrived};
+ghost use Rattle.std.specs.List.{AllByRecursion};
+ghost use Rattle.ppp_mp.specs.Membership.{IsLink};
 ghost use Rattle.ppp_mp.specs.Pieces.{AreInOrder};
+ghost use Rattle.ppp_mp.specs.Reached.{Reached, HasReached, MadeOfPieces};
+ghost use Rattle.ppp_mp.specs.Ring.{slot_piece};
 ghost use Rattle.ppp_mp.specs.StandsFor.{StandsFor, Adds, AddsPiece, IsJoined, members_of, with_looks, counted};
 
 use crate::counts::{GatherCounts, PieceNow};
 use crate::facts::GatherFacts;
 use crate::given::Given;
+use crate::packet::Packet;
 use crate::places::Places;
-use crate::slot_piece::SlotPiece;
-use ppp_base::{Frame, LinkId, NoMemory};
+use ppp_base::{LinkId, NoMemory};
 use std::alloc::Global;
 use std::marker::Model;
 
@@ -27,12 +31,13 @@ pub struct Gather {
 
 impl Model for Gather {
     ghost use Rattle.std.specs.Prelude.{◌≡◌, false};
-    ghost use Rattle.ppp_mp.specs.declared.facts.GatherFacts.{GatherFacts};
+    ghost use Rattle.ppp_mp.specs.StandsFor.{GatherNow};
+    ghost use Rattle.ppp_mp.specs.Facts.{now_of};
     ghost use Rattle.ppp_mp.specs.Places.{place, ends};
 
-    ghost Value = { GatherFacts };
+    ghost Value = { GatherNow };
 
-    ghost view = { λ g. g.facts };
+    ghost view = { λ g. now_of g.facts };
 
     ghost invariant = { λ g. ends (place g.facts.places.pieces 0) ≡ false };
 }
@@ -45,7 +50,7 @@ impl Gather {
         ensures stands { IfOk result (λ g. StandsFor long_space g [] (nothing long_space)) }
         ensures mrru { IfOk result (λ g. g.mrru ≡ mrru) }
         ensures members { IfOk result (λ g. members_of g ≡ replicate 16 false) }
-        ensures looks { IfOk result (λ g. g.places.looks ≡ 0) }
+        ensures looks { IfOk result (λ g. g.looks ≡ 0) }
     {
         match Places::new(alloc) {
             Ok(places) => Ok(Gather {
@@ -54,6 +59,7 @@ impl Gather {
                     places,
                     overs: [None; 16],
                     counts: no_counts(),
+                    packet: Packet::new(),
                 },
             }),
             Err(_) => Err(NoMemory),
@@ -66,7 +72,7 @@ impl Gather {
         ensures stands { StandsFor long_space self.new [] (nothing long_space) }
         ensures mrru { self.new.mrru ≡ mrru }
         ensures members { members_of self.new ≡ replicate 16 false }
-        ensures looks { self.new.places.looks ≡ 0 }
+        ensures looks { self.new.looks ≡ 0 }
     {
         self.facts.mrru = mrru;
         self.facts.places.restart();
@@ -79,7 +85,7 @@ impl Gather {
     pub fn join(&mut self, link: LinkId)
         ensures mrru { self.new.mrru ≡ self.old.mrru }
         ensures members { members_of self.new ≡ slice_set (members_of self.old) (link - 1) true }
-        ensures looks { self.new.places.looks ≡ self.old.places.looks }
+        ensures looks { self.new.looks ≡ self.old.looks }
         ensures same { IsJoined self.old link → self.new ≡ self.old }
         ensures stands { (past : List Entry) (s : Gathering) → StandsFor long_space self.old past s → Adds long_space self.new past s (Joins link) [] }
     {
@@ -94,9 +100,10 @@ impl Gather {
         ensures mrru { self.new.mrru ≡ self.old.mrru }
         ensures members { members_of self.new ≡ slice_set (members_of self.old) (link - 1) false }
         ensures same { ¬ (IsJoined self.old link) → (self.new ≡ with_looks 0 self.old) × (given.new ≡ []) }
-        ensures looks { self.new.places.looks ≤ 1024 }
+        ensures looks { self.new.looks ≤ 1024 }
         ensures stands { (past : List Entry) (s : Gathering) → StandsFor long_space self.old past s → Adds long_space self.new past s (Leaves link) given.new }
         ensures whole { (past : List Entry) (s : Gathering) → StandsFor long_space self.new past s → AreInOrder s.kept 0 s.least s.given }
+        ensures came { (past : List Entry) (reached : List Reached) (s : Gathering) → StandsFor long_space self.new past s → AllByRecursion IsLink past → HasReached long_space self.new.mrru past reached → AllByRecursion (MadeOfPieces reached) s.given }
     {
         given.clear();
         self.facts.reset();
@@ -115,11 +122,13 @@ impl Gather {
         ensures members { members_of self.new ≡ members_of self.old }
         ensures stranger { (result ≡ PieceNow.Stranger) ↔ ¬ (IsJoined self.old from) }
         ensures bad_header { (result ≡ PieceNow.BadHeader) ↔ (IsJoined self.old from × (length information.now < long_octets)) }
+        ensures seen { (result ≡ PieceNow.Kept) → 1 ≤ self.new.looks }
         ensures refused { (result ≡ PieceNow.Stranger) ⊎ (result ≡ PieceNow.BadHeader) → (self.new ≡ with_looks 0 self.old) × (given.new ≡ []) }
-        ensures looks { self.new.places.looks ≤ 1024 }
+        ensures looks { self.new.looks ≤ 1024 }
         ensures stands { (past : List Entry) (s : Gathering) → StandsFor long_space self.old past s → long_octets ≤ length information.now
             → AddsPiece long_space self.new past s from (fragment_of long_space long_octets information.now) result given.new }
         ensures whole { (past : List Entry) (s : Gathering) → StandsFor long_space self.new past s → AreInOrder s.kept 0 s.least s.given }
+        ensures came { (past : List Entry) (reached : List Reached) (s : Gathering) → StandsFor long_space self.new past s → AllByRecursion IsLink past → HasReached long_space self.new.mrru past reached → AllByRecursion (MadeOfPieces reached) s.given }
     {
         given.clear();
         self.facts.reset();
@@ -129,13 +138,15 @@ impl Gather {
         }
         match fragment_of(information) {
             None => PieceNow::BadHeader,
-            Some((field, piece)) => self.facts.take(at, field, piece, given),
+            Some((field, first, last, octets)) => {
+                self.facts.take(at, field, first, last, octets, given)
+            }
         }
     }
 
     /// How often a slot was looked at in the last `piece` or `leave`: at most 1,024 times, however far a number jumps.
     pub fn looks(&self) -> u32
-        ensures { result ≡ self.now.places.looks }
+        ensures { result ≡ self.now.looks }
     {
         self.facts.places.looks()
     }
@@ -161,22 +172,17 @@ fn no_counts() -> GatherCounts
     }
 }
 
-// The number of a piece and what stands behind its header. None under four octets.
-fn fragment_of(information: &[u8]) -> Option<(u32, SlotPiece)>
+// The number of a piece, B, E and what stands behind its header. None under four octets.
+fn fragment_of(information: &[u8]) -> Option<(u32, bool, bool, &[u8])>
     requires { length information.now ≤ MOST_FRAME }
     ensures some { IsSome result ↔ (4 ≤ length information.now) }
     ensures field { IfSome result (λ found. found.0 < long_space) }
-    ensures is { IfSome result (λ found. fragment_of long_space long_octets information.now ≡ arrived found.0 found.1) }
+    ensures octets { IfSome result (λ found. length found.3.now ≤ MOST_FRAME) }
+    ensures is { IfSome result (λ found. fragment_of long_space long_octets information.now ≡ arrived found.0 (slot_piece found.1 found.2 found.3.now)) }
 {
     let [control, high, middle, low, octets @ ..] = information else {
         return None;
     };
-    let piece = SlotPiece {
-        first: *control > 127,
-        last: *control / 64 % 2 == 1,
-        len: octets.len() as u16,
-        octets: Frame::from_octets(octets)?,
-    };
     let field = u32::from(*high) * 65536 + u32::from(*middle) * 256 + u32::from(*low);
-    Some((field, piece))
+    Some((field, *control > 127, *control / 64 % 2 == 1, octets))
 }

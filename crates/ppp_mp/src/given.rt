@@ -9,17 +9,19 @@ use std::marker::Model;
 /// field and the information. Contracts see it as their list.
 #[derive(Drop)]
 pub struct Given {
+    // Room for 128 packets, of which the first so many were given.
     packets: Vec<Packet>,
+    count: u8,
 }
 
 impl Model for Given {
-    ghost use Rattle.std.specs.Prelude.{List, ℕ, length, ◌≤◌, vec_capacity};
+    ghost use Rattle.std.specs.Prelude.{◌≡◌, List, ℕ, length, take, ◌≤◌};
 
     ghost Value = { List (List ℕ) };
 
-    ghost view = { λ g. g.packets.items };
+    ghost view = { λ g. take g.count g.packets.items };
 
-    ghost invariant = { λ g. (128 ≤ vec_capacity g.packets) × (length g.packets.items ≤ 128) };
+    ghost invariant = { λ g. (length g.packets.items ≡ 128) × (g.count ≤ 128) };
 }
 
 impl Given {
@@ -27,10 +29,11 @@ impl Given {
     pub fn new(alloc: Global) -> Result<Given, NoMemory>
         ensures { IfOk result (λ g. g ≡ []) }
     {
-        match Vec::with_capacity(alloc, 128) {
-            Ok(packets) => Ok(Given { packets }),
-            Err(_) => Err(NoMemory),
+        let mut packets = Vec::with_capacity(alloc, 128).map_err(|_| NoMemory)?;
+        for _packet in 0..128u8 {
+            packets.push_reserved(Packet::new());
         }
+        Ok(Given { packets, count: 0 })
     }
 
     /// How many packets there are, at most 128.
@@ -38,7 +41,7 @@ impl Given {
         ensures count { result ≡ length self.now }
         ensures within { result ≤ 128 }
     {
-        self.packets.len() as u8
+        self.count
     }
 
     /// The packet at this place. None exactly at the count or above.
@@ -46,22 +49,27 @@ impl Given {
         ensures packet { option_map (λ x. x.now) result ≡ slice_get self.now at }
         ensures within { IfSome result (λ x. length x.now ≤ MOST_PACKET) }
     {
-        match self.packets.as_slice().get(usize::from(at)) {
-            Some(packet) => Some(packet.as_slice()),
-            None => None,
+        if self.count <= at {
+            return None;
         }
+        Some(self.packets[usize::from(at)].as_slice())
     }
 
     pub(crate) fn clear(&mut self)
         ensures { self.new ≡ [] }
     {
-        self.packets.clear();
+        self.count = 0;
     }
 
-    pub(crate) fn push(&mut self, packet: Packet)
-        requires { length self.old < 128 }
-        ensures { self.new ≡ self.old ++ packet ∷ [] }
+    // One packet more. Its octets alone are copied.
+    pub(crate) fn push(&mut self, packet: &[u8])
+        requires room { length self.old < 128 }
+        requires within { length packet.now ≤ MOST_PACKET }
+        ensures { self.new ≡ self.old ++ packet.now ∷ [] }
     {
-        self.packets.push_reserved(packet);
+        let room = &mut self.packets[usize::from(self.count)];
+        room.clear();
+        room.append(packet);
+        self.count += 1;
     }
 }

@@ -26,6 +26,7 @@ mod packet;
 mod places;
 mod sending;
 mod settling;
+mod slot;
 mod slot_piece;
 mod slots;
 #[cfg(test)]

@@ -1,11 +1,12 @@
-ghost use Rattle.std.specs.Prelude.{◌≡◌, ℕ, ◌+◌, ◌-◌, ◌%◌, ◌<◌, ◌≤◌, ◌==◌, ◌⊎◌, ◌++◌, length, max, min, true, false, IfOk, is_some, option_map, None, Some, if◌then◌else◌, nat_lt};
+ghost use Rattle.std.specs.Prelude.{◌≡◌, ℕ, ◌+◌, ◌-◌, ◌%◌, ◌<◌, ◌≤◌, ◌==◌, ◌⊎◌, ◌++◌, length, max, min, true, false, IfOk, is_some, option_map, None, Some, if◌then◌else◌, nat_lt, not};
 ghost use Rattle.ppp_mp.specs.Header.{long_space};
 ghost use Rattle.ppp_mp.specs.Places.{place, Found, AreMissing, BegunThere, joined_there, HasLooked, HasMissed, HasShifted};
-ghost use Rattle.ppp_mp.specs.Ring.{view_of};
+ghost use Rattle.ppp_mp.specs.Ring.{view_of, slot_piece, octets_there};
+ghost use Rattle.ppp_base.specs.declared.octets.TheConstants.{MOST_FRAME};
 
 use crate::numbers::number_after;
 use crate::packet::Packet;
-use crate::slot_piece::{SlotPiece, SlotView};
+use crate::slot_piece::SlotView;
 use crate::slots::Slots;
 use ppp_base::NoMemory;
 use std::alloc::Global;
@@ -107,6 +108,7 @@ impl Places {
     // Whether a piece waits at this place.
     pub(crate) fn waits(&mut self, i: u32) -> bool
         ensures waits { result ≡ is_some (place self.old.pieces i) }
+        ensures seen { i < 128 → 1 ≤ self.new.looks }
         ensures same { self.new ≡ record self.old { looks = self.new.looks } }
         ensures looks { self.new.looks ≤ self.old.looks + 1 }
         ensures rose { self.old.looks ≤ self.new.looks }
@@ -119,6 +121,7 @@ impl Places {
     fn at(&mut self, i: u32) -> Option<SlotView>
         requires { i < 128 }
         ensures view { result ≡ option_map view_of (place self.old.pieces i) }
+        ensures seen { 1 ≤ self.new.looks }
         ensures same { self.new ≡ record self.old { looks = self.new.looks } }
         ensures looks { self.new.looks ≤ self.old.looks + 1 }
         ensures rose { self.old.looks ≤ self.new.looks }
@@ -209,53 +212,71 @@ impl Places {
     {
         let stop = self.end.min(count);
         for i in self.gap.min(stop)..stop {
-            let _ = self.drop_at(i);
+            self.forget_at(i);
         }
         self.shift(count);
     }
 
-    // So many numbers are settled as a complete run: its octets joined, unless they are too many.
-    pub(crate) fn give(&mut self, count: u32, limit: usize) -> Option<Packet>
+    // So many numbers are settled as a complete run. Its octets are joined, unless they are too many.
+    pub(crate) fn give(&mut self, count: u32, limit: usize, packet: &mut Packet) -> bool
         requires { limit ≤ 2050 }
-        ensures packet { result ≡ (if nat_lt limit (length (joined_there self.old.pieces count)) then None else Some (joined_there self.old.pieces count)) }
+        ensures fits { result ≡ not (nat_lt limit (length (joined_there self.old.pieces count))) }
+        ensures packet { result ≡ true → packet.new ≡ joined_there self.old.pieces count }
         ensures shifted { HasShifted long_space self.old self.new count }
     {
-        let mut packet = Packet::new();
+        packet.clear();
         let mut fits = true;
         let stop = self.end.min(count);
         for i in 0..stop {
-            if let Some(piece) = self.drop_at(i) {
-                fits = join(&mut packet, fits, piece.octets.as_slice(), limit);
-            }
+            fits = self.give_at(i, packet, fits, limit);
         }
         self.shift(count);
-        if fits { Some(packet) } else { None }
+        fits
     }
 
-    // The piece at this place, which waits no longer.
-    fn drop_at(&mut self, i: u32) -> Option<SlotPiece>
+    // The piece at this place waits no longer.
+    fn forget_at(&mut self, i: u32)
         requires { i < 128 }
-        ensures piece { result ≡ place self.old.pieces i }
         ensures pieces { (j : ℕ) → place self.new.pieces j ≡ (if j == i then None else place self.old.pieces j) }
         ensures base { self.new.base ≡ self.old.base }
         ensures end { self.new.end ≡ self.old.end }
         ensures looks { self.new.looks ≤ self.old.looks + 1 }
         ensures rose { self.old.looks ≤ self.new.looks }
     {
-        self.slots.clear(number_after(self.base, i))
+        self.slots.forget(number_after(self.base, i));
     }
 
-    // A piece begins to wait.
-    pub(crate) fn put(&mut self, i: u32, piece: SlotPiece)
+    // The octets of the piece at this place, which waits no longer, are appended where all so far fit, and these do.
+    fn give_at(&mut self, i: u32, packet: &mut Packet, fits: bool, limit: usize) -> bool
+        requires i { i < 128 }
+        requires limit { limit ≤ 2050 }
+        requires within { length packet.old ≤ limit }
+        ensures within { length packet.new ≤ limit }
+        ensures joined { result ≡ true → (fits ≡ true) × (packet.new ≡ packet.old ++ octets_there (place self.old.pieces i)) }
+        ensures too_long { result ≡ false → (fits ≡ false) ⊎ (limit < length packet.old + length (octets_there (place self.old.pieces i))) }
+        ensures pieces { (j : ℕ) → place self.new.pieces j ≡ (if j == i then None else place self.old.pieces j) }
+        ensures base { self.new.base ≡ self.old.base }
+        ensures end { self.new.end ≡ self.old.end }
+        ensures looks { self.new.looks ≤ self.old.looks + 1 }
+        ensures rose { self.old.looks ≤ self.new.looks }
+    {
+        self.slots
+            .give(number_after(self.base, i), packet, fits, limit)
+    }
+
+    // A piece begins to wait: B, E and its octets.
+    pub(crate) fn put(&mut self, i: u32, first: bool, last: bool, octets: &[u8])
+        requires octets { length octets.now ≤ MOST_FRAME }
         requires within { i < 128 }
         requires none { place self.old.pieces i ≡ None }
-        ensures pieces { (j : ℕ) → place self.new.pieces j ≡ (if j == i then Some piece else place self.old.pieces j) }
+        ensures pieces { (j : ℕ) → place self.new.pieces j ≡ (if j == i then Some (slot_piece first last octets.now) else place self.old.pieces j) }
         ensures base { self.new.base ≡ self.old.base }
         ensures end { self.new.end ≡ max self.old.end (i + 1) }
         ensures looks { self.new.looks ≤ self.old.looks + 1 }
         ensures rose { self.old.looks ≤ self.new.looks }
     {
-        self.slots.put(number_after(self.base, i), piece);
+        self.slots
+            .put_octets(number_after(self.base, i), first, last, octets);
         self.gap = self.gap.min(i);
         self.end = self.end.max(i + 1);
     }
@@ -269,22 +290,14 @@ impl Places {
         ensures looks { self.new.looks ≡ self.old.looks }
     {
         self.base = number_after(self.base, count);
-        self.gap = self.gap.saturating_sub(count);
         self.end = self.end.saturating_sub(count);
+        self.gap = gap_before(self.gap.saturating_sub(count), self.end);
     }
 }
 
-// Appends these octets where all so far fit, and these do.
-fn join(packet: &mut Packet, fits: bool, octets: &[u8], limit: usize) -> bool
-    requires limit { limit ≤ 2050 }
-    requires within { length packet.old ≤ limit }
-    ensures within { length packet.new ≤ limit }
-    ensures joined { result ≡ true → (fits ≡ true) × (packet.new ≡ packet.old ++ octets.now) }
-    ensures too_long { result ≡ false → (fits ≡ false) ⊎ (limit < length packet.old + length octets.now) }
+// Where no piece waits below the gap, nor at the end or behind it: none at all where the end is not above the gap.
+fn gap_before(gap: u32, end: u32) -> u32
+    ensures { result ≡ (if nat_lt gap end then gap else 128) }
 {
-    if !fits || limit - packet.len() < octets.len() {
-        return false;
-    }
-    packet.append(octets);
-    true
+    if gap < end { gap } else { PLACES }
 }

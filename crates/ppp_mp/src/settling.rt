@@ -1,16 +1,17 @@
 ghost use Rattle.std.specs.Prelude.{◌≡◌, ◌≢◌, ℕ, ◌+◌, ◌-◌, ◌*◌, ◌%◌, ◌^◌, ◌<◌, ◌≤◌, List, [], ◌∷◌, ◌++◌, length, min, map, option_map, None, Some, unwrap_or, false, max, slice_set, slice_index_or, ◌==◌, if◌then◌else◌, is_some, true};
 ghost use Rattle.ppp_mp.specs.Delivered.{lowest, lesser, Gathering, AtRest, mark};
+ghost use Rattle.ppp_base.specs.declared.octets.TheConstants.{MOST_FRAME};
 ghost use Rattle.ppp_mp.specs.Header.{long_space};
+ghost use Rattle.ppp_mp.specs.Ring.{slot_piece};
 ghost use Rattle.ppp_mp.specs.Places.{place, tally, ends, Found, HasLooked};
 ghost use Rattle.ppp_mp.specs.Moves.{IsMoved, HasSettled, HasSettledNow, HasCompleted, HasTaken, IsKept, arrived};
-ghost use Rattle.ppp_mp.specs.StandsFor.{KeepsNow, members_of, with_looks};
+ghost use Rattle.ppp_mp.specs.Facts.{KeepsFacts, members_in, with_looks_at};
 
 use crate::counts::PieceNow;
 use crate::facts::GatherFacts;
 use crate::given::Given;
 use crate::numbers::{HALF, ahead_of};
 use crate::places::RuleNow;
-use crate::slot_piece::SlotPiece;
 
 impl GatherFacts {
     // A piece with this number, modulo the number space, comes from a member.
@@ -18,22 +19,26 @@ impl GatherFacts {
         &mut self,
         at: usize,
         field: u32,
-        piece: SlotPiece,
+        first: bool,
+        last: bool,
+        octets: &[u8],
         given: &mut Given,
     ) -> PieceNow
         requires link { at < 16 }
+        requires octets { length octets.now ≤ MOST_FRAME }
         requires field { field < long_space }
         requires empty { given.old ≡ [] }
         requires rest { ends (place self.old.places.pieces 0) ≡ false }
         requires member { is_some (slice_index_or self.old.overs at None) ≡ true }
         ensures mrru { self.new.mrru ≡ self.old.mrru }
-        ensures members { members_of self.new ≡ members_of self.old }
+        ensures members { members_in self.new ≡ members_in self.old }
         ensures rest { ends (place self.new.places.pieces 0) ≡ false }
         ensures looks { self.new.places.looks ≤ self.old.places.looks + 1024 }
         ensures rose { self.old.places.looks ≤ self.new.places.looks }
+        ensures seen { (result ≡ PieceNow.Kept) → 1 ≤ self.new.places.looks }
         ensures other { (result ≢ PieceNow.Stranger) × (result ≢ PieceNow.BadHeader) }
-        ensures takes { (s : Gathering) → KeepsNow long_space self.old s → AtRest self.old.mrru (mark s) s
-            → HasTaken long_space self.old.mrru s (at + 1) (arrived field piece) result self.new given.new }
+        ensures takes { (s : Gathering) → KeepsFacts long_space self.old s → AtRest self.old.mrru (mark s) s
+            → HasTaken long_space self.old.mrru s (at + 1) (arrived field (slot_piece first last octets.now)) result self.new given.new }
     {
         let ahead = self.ahead(field);
         if HALF <= ahead {
@@ -53,7 +58,7 @@ impl GatherFacts {
         let left = self.ahead(field);
         let far = left.saturating_sub(127);
         self.lose(far);
-        self.keep(left - far, piece);
+        self.keep(left - far, first, last, octets);
         self.bring(at, left - far);
         self.settle_now(given);
         PieceNow::Kept
@@ -96,19 +101,21 @@ impl GatherFacts {
     }
 
     // A piece begins to wait where none does. None ever does there; the check spares a proof of it in each state.
-    fn keep(&mut self, i: u32, piece: SlotPiece)
-        requires { i < 128 }
-        ensures kept { IsKept self.old.places.pieces self.new.places.pieces i piece }
+    fn keep(&mut self, i: u32, first: bool, last: bool, octets: &[u8])
+        requires i { i < 128 }
+        requires octets { length octets.now ≤ MOST_FRAME }
+        ensures kept { IsKept self.old.places.pieces self.new.places.pieces i (slot_piece first last octets.now) }
         ensures mrru { self.new.mrru ≡ self.old.mrru }
         ensures base { self.new.places.base ≡ self.old.places.base }
         ensures overs { self.new.overs ≡ self.old.overs }
         ensures counts { self.new.counts ≡ self.old.counts }
         ensures end { self.new.places.end ≤ max self.old.places.end (i + 1) }
+        ensures seen { 1 ≤ self.new.places.looks }
         ensures looks { self.new.places.looks ≤ self.old.places.looks + 2 }
         ensures rose { self.old.places.looks ≤ self.new.places.looks }
     {
         if !self.waits(i) {
-            self.places.put(i, piece);
+            self.places.put(i, first, last, octets);
         }
     }
 
@@ -125,7 +132,8 @@ impl GatherFacts {
     // Whether a piece waits at this place.
     fn waits(&mut self, i: u32) -> bool
         ensures waits { result ≡ is_some (place self.old.places.pieces i) }
-        ensures same { self.new ≡ with_looks self.new.places.looks self.old }
+        ensures seen { i < 128 → 1 ≤ self.new.places.looks }
+        ensures same { self.new ≡ with_looks_at self.new.places.looks self.old }
         ensures looks { self.new.places.looks ≤ self.old.places.looks + 1 }
         ensures rose { self.old.places.looks ≤ self.new.places.looks }
     {
@@ -136,7 +144,7 @@ impl GatherFacts {
     fn scan(&mut self, bound: u32) -> RuleNow
         ensures found { Found self.new.places.pieces bound result }
         ensures past { (i : ℕ) → 128 ≤ i → place self.new.places.pieces i ≡ None }
-        ensures same { self.new ≡ with_looks self.new.places.looks self.old }
+        ensures same { self.new ≡ with_looks_at self.new.places.looks self.old }
         ensures looks { HasLooked self.old.places self.new.places result }
         ensures rose { self.old.places.looks ≤ self.new.places.looks }
     {
@@ -145,7 +153,7 @@ impl GatherFacts {
 
     // The looks are counted from 0 on again.
     pub(crate) fn reset(&mut self)
-        ensures now { self.new ≡ with_looks 0 self.old }
+        ensures now { self.new ≡ with_looks_at 0 self.old }
         ensures end { self.old.places.end ≤ 128 }
     {
         self.places.reset();
@@ -155,7 +163,7 @@ impl GatherFacts {
     pub(crate) fn settle_now(&mut self, given: &mut Given)
         requires { length given.old + tally ends self.old.places.pieces 128 ≤ 128 }
         ensures mrru { self.new.mrru ≡ self.old.mrru }
-        ensures members { members_of self.new ≡ members_of self.old }
+        ensures members { members_in self.new ≡ members_in self.old }
         ensures rest { ends (place self.new.places.pieces 0) ≡ false }
         ensures looks { self.new.places.looks + 2 * self.new.places.end ≤ self.old.places.looks + 3 * self.old.places.end + 1 }
         ensures rose { self.old.places.looks ≤ self.new.places.looks }
@@ -186,7 +194,7 @@ impl GatherFacts {
         requires { length given.old + tally ends self.old.places.pieces 128 ≤ 128 }
         ensures past { (i : ℕ) → 128 ≤ i → place self.new.places.pieces i ≡ None }
         ensures mrru { self.new.mrru ≡ self.old.mrru }
-        ensures members { members_of self.new ≡ members_of self.old }
+        ensures members { members_in self.new ≡ members_in self.old }
         ensures room { length given.new + tally ends self.new.places.pieces 128 ≤ length given.old + tally ends self.old.places.pieces 128 }
         ensures rest { ends (place self.new.places.pieces 0) ≡ false }
         ensures looks { self.new.places.looks + 2 * self.new.places.end ≤ self.old.places.looks + 3 * self.old.places.end + 1 }
@@ -229,9 +237,11 @@ impl GatherFacts {
         ensures moved { IsMoved long_space self.old self.new count }
         ensures packet { HasCompleted self.old self.new count given.old given.new }
     {
-        match self.places.give(count, usize::from(self.mrru) + 2) {
-            Some(packet) => given.push(packet),
-            None => self.counts.too_long = self.counts.too_long.saturating_add(1),
+        let limit = usize::from(self.mrru) + 2;
+        if self.places.give(count, limit, &mut self.packet) {
+            given.push(self.packet.as_slice());
+        } else {
+            self.counts.too_long = self.counts.too_long.saturating_add(1);
         }
         lessen(&mut self.overs, count);
     }
@@ -241,6 +251,9 @@ impl GatherFacts {
 fn lessen(overs: &mut [Option<u32>; 16], count: u32)
     ensures { overs.new ≡ map (option_map (λ n. n - count)) overs.old }
 {
+    if count == 0 {
+        return;
+    }
     for i in 0..16usize {
         overs[i] = less(overs[i], count);
     }
@@ -256,7 +269,17 @@ fn less(over: Option<u32>, count: u32) -> Option<u32>
 fn lowest(overs: &[Option<u32>]) -> Option<u32>
     ensures { result ≡ lowest overs.now }
 {
-    overs.iter().fold(None, |least, over| lesser(least, *over))
+    let mut least = None;
+    let mut left = overs;
+    while let [over, rest @ ..] = left {
+        least = lesser(least, *over);
+        left = rest;
+        // None is less than 0.
+        if let Some(0) = least {
+            return least;
+        }
+    }
+    least
 }
 
 fn lesser(least: Option<u32>, over: Option<u32>) -> Option<u32>

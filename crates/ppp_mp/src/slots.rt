@@ -1,7 +1,10 @@
-ghost use Rattle.std.specs.Prelude.{◌≡◌, ◌≢◌, ℕ, ◌+◌, ◌%◌, ◌<◌, ◌≤◌, ◌==◌, Bool, true, List, Option, None, Some, if◌then◌else◌, is_some, option_map, IfOk, slice_index_or};
+ghost use Rattle.std.specs.Prelude.{◌≡◌, ◌≢◌, ℕ, ◌+◌, ◌%◌, ◌<◌, ◌≤◌, ◌==◌, ◌++◌, ◌⊎◌, Bool, true, false, List, [], ◌∷◌, length, Option, None, Some, if◌then◌else◌, is_some, option_map, IfOk, slice_index_or};
+ghost use Rattle.ppp_base.specs.declared.octets.TheConstants.{MOST_FRAME};
 ghost use Rattle.ppp_mp.specs.Header.{long_space};
-ghost use Rattle.ppp_mp.specs.Ring.{SlotsNow, kept_at, view_of, looked, IsNearAll, kept_in};
+ghost use Rattle.ppp_mp.specs.Ring.{Slotted, SlotsNow, kept_at, view_of, looked, IsNearAll, kept_in, slot_piece, octets_there};
 
+use crate::packet::Packet;
+use crate::slot::Slot;
 use crate::slot_piece::{SlotPiece, SlotView};
 use ppp_base::NoMemory;
 use std::alloc::Global;
@@ -10,18 +13,11 @@ use std::marker::Model;
 /// How many slots there are: number n stands in slot n modulo 128.
 const RING: u32 = 128;
 
-// A piece with its number.
-#[derive(Debug, Drop)]
-pub(crate) struct Slotted {
-    pub(crate) number: u32,
-    pub(crate) piece: SlotPiece,
-}
-
 /// The pieces that wait, by their numbers modulo 2^24, which lie less than 128 from one another. Contracts see which
 /// numbers are kept, and how often a slot was looked at since `reset`; the count stands still at 2^32 - 1.
 #[derive(Drop)]
 pub struct Slots {
-    slots: Vec<Option<Slotted>>,
+    slots: Vec<Slot>,
     looks: u32,
 }
 
@@ -45,7 +41,7 @@ impl Slots {
     {
         let mut slots = Vec::with_capacity(alloc, RING as usize).map_err(|_| NoMemory)?;
         for _slot in 0..RING {
-            slots.push_reserved(None);
+            slots.push_reserved(Slot::new());
         }
         Ok(Slots { slots, looks: 0 })
     }
@@ -59,7 +55,7 @@ impl Slots {
         ensures rose { self.old.looks ≤ self.new.looks }
     {
         self.looks = self.looks.saturating_add(1);
-        seen(&self.slots[(number % RING) as usize], number)
+        self.slots[(number % RING) as usize].seen(number)
     }
 
     /// A piece with this number begins to wait.
@@ -71,8 +67,21 @@ impl Slots {
         ensures looks { self.new.looks ≡ looked self.old.looks }
         ensures rose { self.old.looks ≤ self.new.looks }
     {
+        self.put_octets(number, piece.first, piece.last, piece.octets.as_slice());
+    }
+
+    // A piece with this number begins to wait: B, E and its octets, which alone are copied.
+    pub(crate) fn put_octets(&mut self, number: u32, first: bool, last: bool, octets: &[u8])
+        requires within { length octets.now ≤ MOST_FRAME }
+        requires number { number < long_space }
+        requires new { kept_at number self.old.slots ≡ None }
+        requires near { IsNearAll long_space number self.old.slots }
+        ensures kept { (other : ℕ) → kept_at other self.new.slots ≡ (if other == number then Some (slot_piece first last octets.now) else kept_at other self.old.slots) }
+        ensures looks { self.new.looks ≡ looked self.old.looks }
+        ensures rose { self.old.looks ≤ self.new.looks }
+    {
         self.looks = self.looks.saturating_add(1);
-        self.slots[(number % RING) as usize] = Some(Slotted { number, piece });
+        self.slots[(number % RING) as usize].fill(number, first, last, octets);
     }
 
     /// The piece with this number, which waits no longer. None exactly where it isn't kept.
@@ -83,13 +92,54 @@ impl Slots {
         ensures looks { self.new.looks ≡ looked self.old.looks }
         ensures rose { self.old.looks ≤ self.new.looks }
     {
+        let piece = self.slots[(number % RING) as usize].piece(number);
+        self.forget(number);
+        piece
+    }
+
+    // The piece with this number waits no longer.
+    pub(crate) fn forget(&mut self, number: u32)
+        requires { number < long_space }
+        ensures kept { (other : ℕ) → kept_at other self.new.slots ≡ (if other == number then None else kept_at other self.old.slots) }
+        ensures looks { self.new.looks ≡ looked self.old.looks }
+        ensures rose { self.old.looks ≤ self.new.looks }
+    {
         self.looks = self.looks.saturating_add(1);
-        let i = (number % RING) as usize;
-        if seen(&self.slots[i], number).is_none() {
-            return None;
+        self.slots[(number % RING) as usize].empty(number);
+    }
+
+    // The octets of the piece with this number, which waits no longer, are appended where all so far fit, and these do.
+    pub(crate) fn give(
+        &mut self,
+        number: u32,
+        packet: &mut Packet,
+        fits: bool,
+        limit: usize,
+    ) -> bool
+        requires number { number < long_space }
+        requires limit { limit ≤ 2050 }
+        requires within { length packet.old ≤ limit }
+        ensures within { length packet.new ≤ limit }
+        ensures joined { result ≡ true → (fits ≡ true) × (packet.new ≡ packet.old ++ octets_there (kept_at number self.old.slots)) }
+        ensures too_long { result ≡ false → (fits ≡ false) ⊎ (limit < length packet.old + length (octets_there (kept_at number self.old.slots))) }
+        ensures kept { (other : ℕ) → kept_at other self.new.slots ≡ (if other == number then None else kept_at other self.old.slots) }
+        ensures looks { self.new.looks ≡ looked self.old.looks }
+        ensures rose { self.old.looks ≤ self.new.looks }
+    {
+        let octets = self.octets(number);
+        let now = join(packet, fits, octets, limit);
+        self.forget(number);
+        now
+    }
+
+    // The octets of the piece with this number, none where it isn't kept.
+    fn octets(&self, number: u32) -> &[u8]
+        ensures { result.now ≡ octets_there (kept_at number self.now.slots) }
+    {
+        match self.slots[(number % RING) as usize].octets(number) {
+            Some(octets) => octets,
+            None => &[],
         }
-        let slot = self.slots[i].take()?;
-        Some(slot.piece)
     }
 
     /// How often a slot was looked at, by `at`, `put` and `clear`, since `reset`.
@@ -107,21 +157,17 @@ impl Slots {
     }
 }
 
-// What is seen of a slot where it keeps this number.
-fn seen(slot: &Option<Slotted>, number: u32) -> Option<SlotView>
-    ensures { result ≡ option_map view_of (kept_in number slot.now) }
+// Appends these octets where all so far fit, and these do.
+fn join(packet: &mut Packet, fits: bool, octets: &[u8], limit: usize) -> bool
+    requires limit { limit ≤ 2050 }
+    requires within { length packet.old ≤ limit }
+    ensures within { length packet.new ≤ limit }
+    ensures joined { result ≡ true → (fits ≡ true) × (packet.new ≡ packet.old ++ octets.now) }
+    ensures too_long { result ≡ false → (fits ≡ false) ⊎ (limit < length packet.old + length octets.now) }
 {
-    match slot {
-        Some(slot) => {
-            if slot.number != number {
-                return None;
-            }
-            Some(SlotView {
-                first: slot.piece.first,
-                last: slot.piece.last,
-                len: slot.piece.len,
-            })
-        }
-        None => None,
+    if !fits || limit - packet.len() < octets.len() {
+        return false;
     }
+    packet.append(octets);
+    true
 }

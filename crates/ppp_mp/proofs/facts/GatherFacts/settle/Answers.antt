@@ -1,6 +1,6 @@
 use Rattle.std.proofs.Common.{◌≡◌, refl, ap, ◌∙◌, map, is_some, arith}
 use Rattle.ppp_mp.specs.Places.{tally, waits}
-use Rattle.ppp_mp.specs.StandsFor.{members_of}
+use Rattle.ppp_mp.specs.Facts.{members_in}
 use Rattle.ppp_mp.specs.declared.facts.GatherFacts.{GatherFacts}
 use Rattle.ppp_mp.proofs.MemberCalls.{moved_same}
 use Rattle.ppp_mp.proofs.SettlingLemmas.{settling_begins, settling_looked, settling_misses, misses-fall, settling_loses, settling_completes, settling_ends, rests-empty, loses-fall, completes-fall, one-end, room_for, less-same}
@@ -16,7 +16,7 @@ pub returns-in-Rests-clause-mrru : goal.returns-in-Rests-clause-mrru
 returns-in-Rests-clause-mrru c = let t = settling_looked c.args.self.now c.args.given.now c.args.bound c.rules.self c.scan.new.self c.rules.given c.rules.left c.scan.new.self.places.looks c.in-Rests.ensures.same c.rules.invariant.settling in t.mrru
 
 pub returns-in-Rests-clause-members : goal.returns-in-Rests-clause-members
-returns-in-Rests-clause-members c = ap members_of c.in-Rests.ensures.same ∙ c.rules.invariant.members
+returns-in-Rests-clause-members c = ap members_in c.in-Rests.ensures.same ∙ c.rules.invariant.members
 
 pub returns-in-Rests-clause-looks : goal.returns-in-Rests-clause-looks
 returns-in-Rests-clause-looks c =
@@ -50,7 +50,7 @@ rules-preserved-in-Loses c =
       settling = settling_loses c.args.self.now c.args.given.now c.args.bound c.scan.new.self c.rules.given c.rules.left c.lose-in-Loses.new.self c.in-Loses.count c.saturating_sub-left-in-Loses.result so_far c.in-Loses.ensures.found c.in-Loses.ensures.past c.lose-in-Loses.ensures.moved c.lose-in-Loses.ensures.counts c.saturating_sub-left-in-Loses.ensures;
       looks = omega arith;
       rose = let up = c.in-Loses.ensures.rose in let on = c.lose-in-Loses.ensures.moved.rose in let started = c.rules.invariant.rose in omega arith;
-      members = ap (map is_some) c.lose-in-Loses.ensures.moved.overs ∙ moved_same c.scan.new.self.overs _ ∙ ap members_of c.in-Loses.ensures.same ∙ c.rules.invariant.members;
+      members = ap (map is_some) c.lose-in-Loses.ensures.moved.overs ∙ moved_same c.scan.new.self.overs _ ∙ ap members_in c.in-Loses.ensures.same ∙ c.rules.invariant.members;
     }
 
 pub rules-smaller-in-Misses : goal.rules-smaller-in-Misses
@@ -71,7 +71,7 @@ rules-preserved-in-Misses c =
       settling = settling_misses c.args.self.now c.args.given.now c.args.bound c.scan.new.self c.rules.given c.rules.left c.lose.new.self c.in-Misses.count c.saturating_sub-left.result so_far c.in-Misses.ensures.found c.in-Misses.ensures.past c.lose.ensures.moved c.lose.ensures.counts c.saturating_sub-left.ensures;
       looks = omega arith;
       rose = let up = c.in-Misses.ensures.rose in let on = c.lose.ensures.moved.rose in let started = c.rules.invariant.rose in omega arith;
-      members = ap (map is_some) c.lose.ensures.moved.overs ∙ moved_same c.scan.new.self.overs _ ∙ ap members_of c.in-Misses.ensures.same ∙ c.rules.invariant.members;
+      members = ap (map is_some) c.lose.ensures.moved.overs ∙ moved_same c.scan.new.self.overs _ ∙ ap members_in c.in-Misses.ensures.same ∙ c.rules.invariant.members;
     }
 
 pub complete-requires : goal.complete-requires
@@ -100,5 +100,5 @@ rules-preserved c =
       settling = settling_completes c.args.self.now c.args.given.now c.args.bound c.scan.new.self c.rules.given c.rules.left c.complete.new.self c.complete.new.given c.in-Completes.count c.saturating_sub-left-in-Completes.result so_far c.in-Completes.ensures.found c.in-Completes.ensures.past c.complete.ensures.moved c.complete.ensures.packet c.saturating_sub-left-in-Completes.ensures;
       looks = omega arith;
       rose = let up = c.in-Completes.ensures.rose in let on = c.complete.ensures.moved.rose in let started = c.rules.invariant.rose in omega arith;
-      members = ap (map is_some) c.complete.ensures.moved.overs ∙ moved_same c.scan.new.self.overs _ ∙ ap members_of c.in-Completes.ensures.same ∙ c.rules.invariant.members;
+      members = ap (map is_some) c.complete.ensures.moved.overs ∙ moved_same c.scan.new.self.overs _ ∙ ap members_in c.in-Completes.ensures.same ∙ c.rules.invariant.members;
     }

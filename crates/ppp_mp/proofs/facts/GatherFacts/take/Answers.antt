@@ -2,8 +2,10 @@ use Rattle.std.proofs.Common.{◌≡◌, ◌+◌, ◌-◌, ◌%◌, ℕ, List, O
 use Rattle.ppp_mp.specs.Delivered.{AtRest, mark, lowest}
 use Rattle.ppp_mp.specs.Header.{long_space}
 use Rattle.ppp_mp.specs.Places.{place}
+use Rattle.ppp_mp.specs.Ring.{slot_piece}
 use Rattle.ppp_mp.specs.Moves.{HasSettledNow, HasSettled, HasTaken, IsKept, arrived}
-use Rattle.ppp_mp.specs.StandsFor.{KeepsNow, stopped, members_of}
+use Rattle.ppp_mp.specs.Facts.{KeepsFacts, members_in}
+use Rattle.ppp_mp.specs.StandsFor.{stopped}
 use Rattle.ppp_mp.specs.declared.facts.GatherFacts.{GatherFacts}
 use Rattle.ppp_mp.specs.declared.slot_piece.SlotPiece.{SlotPiece}
 use Rattle.ppp_mp.specs.declared.counts.PieceNow.TheVariants.{Kept, Doubled}
@@ -26,9 +28,9 @@ settle-requires c = room_first c.args.given.now c.args.self.now.places.pieces c.
 pub settle_now-requires-2 : goal.settle_now-requires-2
 settle_now-requires-2 c =
     let same : c.bring-2.new.self.places.pieces ≡ c.keep.new.self.places.pieces = ap (λ (g : GatherFacts). g.places.pieces) c.bring-2.ensures in
-    let P = λ (l : List (Option SlotPiece)). IsKept c.lose.new.self.places.pieces l (c.ahead-left.result - c.saturating_sub-far.result) c.args.piece in
+    let P = λ (l : List (Option SlotPiece)). IsKept c.lose.new.self.places.pieces l (c.ahead-left.result - c.saturating_sub-far.result) (slot_piece c.args.first c.args.last c.args.octets.now) in
     room_last c.args.given.now c.settle.new.given c.args.self.now.places.pieces c.waits.new.self.places.pieces c.settle.new.self.places.pieces c.lose.new.self.places.pieces c.bring-2.new.self.places.pieces c.saturating_sub-far.result
-    (c.ahead-left.result - c.saturating_sub-far.result) c.args.piece
+    (c.ahead-left.result - c.saturating_sub-far.result) (slot_piece c.args.first c.args.last c.args.octets.now)
     c.requires.empty (ap (λ (g : GatherFacts). g.places.pieces) c.waits.ensures.same) c.requires.rest c.settle.ensures.room c.settle.ensures.past c.lose.ensures.moved.places (subst P (sym same) c.keep.ensures.kept)
 
 pub returns-then-ahead-ge-HALF-clause-takes : goal.returns-then-ahead-ge-HALF-clause-takes
@@ -38,7 +40,7 @@ returns-then-ahead-ge-HALF-clause-takes c = λ s k rest.
     c.count_old.ensures ∙ ap counting_old c.bring.ensures in
     let P = λ (l : List (List ℕ)). HasSettledNow long_space g2 c.settle_now.new.self l c.settle_now.new.given in
     let settled : HasSettledNow long_space g2 c.settle_now.new.self [] c.settle_now.new.given = subst P c.requires.empty c.settle_now.ensures.settled in
-    taken_old c.args.self.now g2 c.settle_now.new.self c.settle_now.new.given s c.args.at c.ahead-ahead.result c.args.field c.args.piece
+    taken_old c.args.self.now g2 c.settle_now.new.self c.settle_now.new.given s c.args.at c.ahead-ahead.result c.args.field (slot_piece c.args.first c.args.last c.args.octets.now)
     k c.requires.field c.ahead-ahead.ensures.within c.ahead-ahead.ensures.is c.if-ahead-ge-HALF.true
     (ap (λ (g : GatherFacts). g.mrru) all) (ap (λ (g : GatherFacts). g.places.base) all) (ap (λ (g : GatherFacts). g.places.pieces) all) (ap (λ (g : GatherFacts). g.overs) all) (ap (λ (g : GatherFacts). g.counts) all)
     settled
@@ -49,19 +51,19 @@ returns-then-waits-clause-takes c = λ s k rest.
     let g2 : GatherFacts = c.count_doubled.new.self in
     let same = c.waits.ensures.same in
     let base : c.waits.new.self.places.base ≡ c.args.self.now.places.base = ap (λ (x : GatherFacts). x.places.base) same in
-    let keeps : KeepsNow long_space c.waits.new.self s = subst (λ (x : GatherFacts). KeepsNow long_space x s) (sym same) (looks_keeps c.args.self.now c.waits.new.self.places.looks s k) in
+    let keeps : KeepsFacts long_space c.waits.new.self s = subst (λ (x : GatherFacts). KeepsFacts long_space x s) (sym same) (looks_keeps c.args.self.now c.waits.new.self.places.looks s k) in
     let all : c.count_doubled.new.self ≡ record c.waits.new.self { overs = over_now c.waits.new.self c.args.at c.ahead-ahead.result; counts = record c.waits.new.self.counts { doubled = stopped (c.waits.new.self.counts.doubled + 1) } } =
     c.count_doubled.ensures ∙ ap counting_doubled c.bring-then-waits.ensures in
     let P = λ (l : List (List ℕ)). HasSettledNow long_space g2 c.settle_now-then-waits.new.self l c.settle_now-then-waits.new.given in
     let settled : HasSettledNow long_space g2 c.settle_now-then-waits.new.self [] c.settle_now-then-waits.new.given = subst P c.requires.empty c.settle_now-then-waits.ensures.settled in
     let there : is_some (place c.waits.new.self.places.pieces c.ahead-ahead.result) ≡ true =
     ap (λ (x : GatherFacts). is_some (place x.places.pieces c.ahead-ahead.result)) same ∙ sym c.waits.ensures.waits ∙ c.if-waits.true in
-    let taken : HasTaken long_space c.waits.new.self.mrru s (c.args.at + 1) (arrived c.args.field c.args.piece) Doubled c.settle_now-then-waits.new.self c.settle_now-then-waits.new.given =
-    taken_doubled c.waits.new.self g2 c.settle_now-then-waits.new.self c.settle_now-then-waits.new.given s c.args.at c.ahead-ahead.result c.args.field c.args.piece
+    let taken : HasTaken long_space c.waits.new.self.mrru s (c.args.at + 1) (arrived c.args.field (slot_piece c.args.first c.args.last c.args.octets.now)) Doubled c.settle_now-then-waits.new.self c.settle_now-then-waits.new.given =
+    taken_doubled c.waits.new.self g2 c.settle_now-then-waits.new.self c.settle_now-then-waits.new.given s c.args.at c.ahead-ahead.result c.args.field (slot_piece c.args.first c.args.last c.args.octets.now)
     keeps c.requires.field (ap (λ b. (b + c.ahead-ahead.result) % long_space) base ∙ c.ahead-ahead.ensures.is) (omega (arith, c.if-ahead-ge-HALF.false)) there
     (ap (λ (g : GatherFacts). g.mrru) all) (ap (λ (g : GatherFacts). g.places.base) all) (ap (λ (g : GatherFacts). g.places.pieces) all) (ap (λ (g : GatherFacts). g.overs) all) (ap (λ (g : GatherFacts). g.counts) all)
     settled in
-    subst (λ (m : ℕ). HasTaken long_space m s (c.args.at + 1) (arrived c.args.field c.args.piece) Doubled c.settle_now-then-waits.new.self c.settle_now-then-waits.new.given) (ap (λ (x : GatherFacts). x.mrru) same) taken
+    subst (λ (m : ℕ). HasTaken long_space m s (c.args.at + 1) (arrived c.args.field (slot_piece c.args.first c.args.last c.args.octets.now)) Doubled c.settle_now-then-waits.new.self c.settle_now-then-waits.new.given) (ap (λ (x : GatherFacts). x.mrru) same) taken
 
 pub returns-clause-takes : goal.returns-clause-takes
 returns-clause-takes c = λ s k rest.
@@ -69,7 +71,7 @@ returns-clause-takes c = λ s k rest.
     let g6 : GatherFacts = c.bring-2.new.self in
     let base0 : c.waits.new.self.places.base ≡ c.args.self.now.places.base = ap (λ (x : GatherFacts). x.places.base) same in
     let mrru0 : c.waits.new.self.mrru ≡ c.args.self.now.mrru = ap (λ (x : GatherFacts). x.mrru) same in
-    let keeps : KeepsNow long_space c.waits.new.self s = subst (λ (x : GatherFacts). KeepsNow long_space x s) (sym same) (looks_keeps c.args.self.now c.waits.new.self.places.looks s k) in
+    let keeps : KeepsFacts long_space c.waits.new.self s = subst (λ (x : GatherFacts). KeepsFacts long_space x s) (sym same) (looks_keeps c.args.self.now c.waits.new.self.places.looks s k) in
     let rests : AtRest c.waits.new.self.mrru (mark s) s = subst (λ (m : ℕ). AtRest m (mark s) s) (sym mrru0) rest in
     let P = λ (l : List (List ℕ)). HasSettled long_space c.max-bound.result c.waits.new.self c.settle.new.self l c.settle.new.given in
     let settled : HasSettled long_space c.max-bound.result c.waits.new.self c.settle.new.self [] c.settle.new.given = subst P c.requires.empty c.settle.ensures.settled in
@@ -78,25 +80,25 @@ returns-clause-takes c = λ s k rest.
     let mrru : c.bring-2.new.self.mrru ≡ c.waits.new.self.mrru = ap (λ (g : GatherFacts). g.mrru) c.bring-2.ensures ∙ c.keep.ensures.mrru ∙ c.lose.ensures.moved.mrru ∙ c.settle.ensures.mrru in
     let bound : c.max-bound.result ≡ max (unwrap_or (lowest c.waits.new.self.overs) 0) (c.ahead-ahead.result - 127) =
     c.max-bound.ensures ∙ ap (λ b. max b c.saturating_sub.result) c.bound.ensures ∙ ap (λ a. max (unwrap_or (lowest c.waits.new.self.overs) 0) a) c.saturating_sub.ensures in
-    let taken : HasTaken long_space c.waits.new.self.mrru s (c.args.at + 1) (arrived c.args.field c.args.piece) Kept c.settle_now-2.new.self c.settle_now-2.new.given =
+    let taken : HasTaken long_space c.waits.new.self.mrru s (c.args.at + 1) (arrived c.args.field (slot_piece c.args.first c.args.last c.args.octets.now)) Kept c.settle_now-2.new.self c.settle_now-2.new.given =
     taken_kept c.waits.new.self c.settle.new.self c.lose.new.self c.keep.new.self g6 c.settle_now-2.new.self c.settle.new.given c.settle_now-2.new.given s c.args.at c.ahead-ahead.result c.args.field
-    c.max-bound.result c.ahead-left.result c.saturating_sub-far.result (c.ahead-left.result - c.saturating_sub-far.result) c.args.piece
+    c.max-bound.result c.ahead-left.result c.saturating_sub-far.result (c.ahead-left.result - c.saturating_sub-far.result) (slot_piece c.args.first c.args.last c.args.octets.now)
     keeps rests c.requires.field (ap (λ b. (b + c.ahead-ahead.result) % long_space) base0 ∙ c.ahead-ahead.ensures.is) (omega (arith, c.if-ahead-ge-HALF.false)) there
     bound settled
     c.ahead-left.ensures.within c.ahead-left.ensures.is c.saturating_sub-far.ensures c.lose.ensures.moved c.lose.ensures.counts
     refl c.keep.ensures.base c.keep.ensures.kept c.keep.ensures.overs c.keep.ensures.counts
     mrru (ap (λ (g : GatherFacts). g.places.base) c.bring-2.ensures) (ap (λ (g : GatherFacts). g.places.pieces) c.bring-2.ensures) (ap (λ (g : GatherFacts). g.overs) c.bring-2.ensures) (ap (λ (g : GatherFacts). g.counts) c.bring-2.ensures)
     c.settle_now-2.ensures.settled in
-    subst (λ (m : ℕ). HasTaken long_space m s (c.args.at + 1) (arrived c.args.field c.args.piece) Kept c.settle_now-2.new.self c.settle_now-2.new.given) mrru0 taken
+    subst (λ (m : ℕ). HasTaken long_space m s (c.args.at + 1) (arrived c.args.field (slot_piece c.args.first c.args.last c.args.octets.now)) Kept c.settle_now-2.new.self c.settle_now-2.new.given) mrru0 taken
 
 pub returns-then-waits-clause-members : goal.returns-then-waits-clause-members
 returns-then-waits-clause-members c =
     let in_it : is_some (slice_index_or c.waits.new.self.overs c.args.at None) ≡ true = ap (λ (g : GatherFacts). is_some (slice_index_or g.overs c.args.at None)) c.waits.ensures.same ∙ c.requires.member in
-    c.settle_now-then-waits.ensures.members ∙ ap members_of c.count_doubled.ensures ∙ ap members_of c.bring-then-waits.ensures ∙ brought_same c.waits.new.self.overs c.args.at _ in_it ∙ ap members_of c.waits.ensures.same
+    c.settle_now-then-waits.ensures.members ∙ ap members_in c.count_doubled.ensures ∙ ap members_in c.bring-then-waits.ensures ∙ brought_same c.waits.new.self.overs c.args.at _ in_it ∙ ap members_in c.waits.ensures.same
 
 pub returns-clause-members : goal.returns-clause-members
 returns-clause-members c =
-    let before : members_of c.keep.new.self ≡ members_of c.args.self.now =
-    ap (map is_some) c.keep.ensures.overs ∙ ap (map is_some) c.lose.ensures.moved.overs ∙ moved_same c.settle.new.self.overs _ ∙ c.settle.ensures.members ∙ ap members_of c.waits.ensures.same in
+    let before : members_in c.keep.new.self ≡ members_in c.args.self.now =
+    ap (map is_some) c.keep.ensures.overs ∙ ap (map is_some) c.lose.ensures.moved.overs ∙ moved_same c.settle.new.self.overs _ ∙ c.settle.ensures.members ∙ ap members_in c.waits.ensures.same in
     let in_it : is_some (slice_index_or c.keep.new.self.overs c.args.at None) ≡ true = there_same c.keep.new.self.overs c.args.self.now.overs c.args.at before ∙ c.requires.member in
-    c.settle_now-2.ensures.members ∙ ap members_of c.bring-2.ensures ∙ brought_same c.keep.new.self.overs c.args.at _ in_it ∙ before
+    c.settle_now-2.ensures.members ∙ ap members_in c.bring-2.ensures ∙ brought_same c.keep.new.self.overs c.args.at _ in_it ∙ before

@@ -1,7 +1,6 @@
 use Rattle.std.proofs.Common.{◌≡◌, ◌%◌, Option, None, option_map, slice_index_or, ap, sym, ◌∙◌, arith}
 use Rattle.std.proofs.lemmas.List.{get_or_read}
-use Rattle.ppp_mp.specs.Ring.{SlotsNow, kept_at, kept_in, view_of}
-use Rattle.ppp_mp.specs.declared.slots.Slotted.{Slotted}
+use Rattle.ppp_mp.specs.Ring.{Slotted, SlotsNow, kept_at, kept_in, view_of}
 use Rattle.ppp_mp.proofs.RingLemmas.{at_kept}
 use Rattle.ppp_mp.proofs.slots.Slots.at.Goals as goal
 
