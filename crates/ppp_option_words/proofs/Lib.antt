@@ -1,0 +1,2 @@
+mod SidesLemmas
+mod PairLemmas

@@ -1,0 +1,16 @@
+pub use Rattle.ppp_base.specs.Disc
+pub use Rattle.ppp_base.specs.Hex
+pub use Rattle.ppp_base.specs.Numbers
+pub use Rattle.ppp_chat.specs.Script
+pub use Rattle.ppp_outside.specs.Counts
+pub use Rattle.ppp_outside.specs.Files
+pub mod Table
+pub mod Numbered
+pub mod Same
+pub mod Picks
+pub mod LinkValues
+pub mod ConfigValues
+pub mod Answers
+pub mod Results
+pub mod Values
+pub mod PairsRead
