@@ -1,2 +1,3 @@
 mod SidesLemmas
 mod PairLemmas
+mod TableLemmas

@@ -4,6 +4,7 @@ pub use Rattle.ppp_base.specs.Numbers
 pub use Rattle.ppp_chat.specs.Script
 pub use Rattle.ppp_outside.specs.Counts
 pub use Rattle.ppp_outside.specs.Files
+pub use Rattle.ppp_outside.specs.Writing
 pub mod Table
 pub mod Numbered
 pub mod Same
@@ -14,3 +15,4 @@ pub mod Answers
 pub mod Results
 pub mod Values
 pub mod PairsRead
+pub mod FaultText

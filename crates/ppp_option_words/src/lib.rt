@@ -8,11 +8,13 @@
 
 mod config;
 mod fault;
+mod fault_text;
 mod fault_word;
 mod flag;
 mod ignored;
 mod item;
 mod kind;
+pub mod laws;
 mod link_config;
 mod number;
 mod text;

@@ -1,4 +1,4 @@
-ghost use Rattle.std.specs.Prelude.{◌≡◌, IfSome};
+ghost use Rattle.std.specs.Prelude.{◌≡◌, IfNone, IfSome};
 ghost use Rattle.ppp_option_words.specs.Table.{IsWithin, default_of, least_of, most_of, number_spelled};
 
 /// A word with a number behind it (pppd(8), "Options").
@@ -106,6 +106,7 @@ pub fn most(number: Number) -> u32
 pub fn default(number: Number) -> Option<u32>
     ensures value { result ≡ default_of number }
     ensures range { IfSome result (IsWithin number) }
+    ensures zero { IfNone result (IsWithin number 0) }
 {
     match number {
         Number::Mru | Number::Mrru => Some(1500),
