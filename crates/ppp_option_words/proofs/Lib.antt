@@ -1,0 +1,3 @@
+mod SidesLemmas
+mod PairLemmas
+mod TableLemmas
