@@ -18,7 +18,7 @@ words_of_file : (backslash : Backslash) (name : List ℕ) (files : Option (List 
     → IfSome files (λ all. IsWordsOf answer (words_at backslash all name))
 words_of_file backslash name None file answer text is_file follows = tt
 words_of_file backslash name (Some all) (whole.Bytes octets) (Words words) text is_file follows = rw (text, is_file, follows) refl
-words_of_file backslash name (Some all) (whole.Bytes octets) (OpenQuote line) text is_file follows = rw (text, is_file, follows) refl
+words_of_file backslash name (Some all) (whole.Bytes octets) (OpenQuote words line) text is_file follows = rw (text, is_file, follows) refl
 words_of_file backslash name (Some all) (whole.Bytes octets) NoFile text is_file follows = absurd follows
 words_of_file backslash name (Some all) (whole.Bytes octets) Failed text is_file follows = tt
 words_of_file backslash name (Some all) (whole.Bytes octets) NoMemory text is_file follows = tt
@@ -28,7 +28,7 @@ words_of_file backslash name (Some all) whole.NoMemory answer text is_file follo
 
 counted_as : (backslash : Backslash) (file : WholeFile) (answer : FileWords) → FollowsFile backslash file answer → failed answer ≡ file_failed file
 counted_as backslash (whole.Bytes octets) (Words words) follows = refl
-counted_as backslash (whole.Bytes octets) (OpenQuote line) follows = refl
+counted_as backslash (whole.Bytes octets) (OpenQuote words line) follows = refl
 counted_as backslash (whole.Bytes octets) NoFile follows = absurd follows
 counted_as backslash (whole.Bytes octets) Failed follows = absurd follows
 counted_as backslash (whole.Bytes octets) NoMemory follows = refl

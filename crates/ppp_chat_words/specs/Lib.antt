@@ -1,4 +1,5 @@
 pub use Rattle.ppp_words.specs.PlacedWord
+pub use Rattle.ppp_words.specs.Front as TextFront
 pub use Rattle.ppp_words.specs.Steps
 pub use Rattle.ppp_words.specs.Words
 pub use Rattle.ppp_outside.specs.Counts

@@ -1,8 +1,9 @@
 ghost use Rattle.ppp_chat_words.specs.FileWords.{FollowsFile, HasWords, ReadsWords};
 
-use crate::splitting::split;
+use crate::splitting::split_front;
+use ppp_base::NoMemory;
 use ppp_outside::{Files, WholeFile};
-use ppp_words::{Backslash, WordsFault};
+use ppp_words::Backslash;
 use std::alloc::Global;
 use std::str;
 
@@ -11,8 +12,8 @@ use std::str;
 pub enum FileWords {
     /// Its words, each as the octets that it stands for.
     Words(Vec<Vec<u8>>),
-    /// The quote that begins on this line, counted from 1, is open at the file's end.
-    OpenQuote(usize),
+    /// A quote is open at the file's end: the words in front of its word, and the line on which it begins, counted from 1.
+    OpenQuote(Vec<Vec<u8>>, usize),
     /// There is no file of this name.
     NoFile,
     /// The outside failed.
@@ -25,10 +26,13 @@ pub enum FileWords {
 fn words_in(alloc: Global, octets: &[u8], backslash: Backslash) -> FileWords
     ensures { HasWords backslash octets.now result }
 {
-    match split(alloc, octets, backslash) {
-        Ok(words) => FileWords::Words(words),
-        Err(WordsFault::OpenQuote(line)) => FileWords::OpenQuote(line),
-        Err(WordsFault::NoMemory) => FileWords::NoMemory,
+    let (words, open_quote) = match split_front(alloc, octets, backslash) {
+        Ok(front) => front,
+        Err(NoMemory) => return FileWords::NoMemory,
+    };
+    match open_quote {
+        None => FileWords::Words(words),
+        Some(line) => FileWords::OpenQuote(words, line),
     }
 }
 

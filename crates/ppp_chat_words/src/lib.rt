@@ -12,7 +12,7 @@ mod splitting;
 
 pub use file::{FileWords, read_words};
 pub use options::{ChatWords, DEFAULT_TIMEOUT, chat_words};
-pub use splitting::split;
+pub use splitting::{split, split_front};
 
 #[cfg(test)]
 mod tests;

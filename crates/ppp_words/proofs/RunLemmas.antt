@@ -1,14 +1,15 @@
 -- Reading the octets of a text gives the words of the text.
 use Rattle.std.proofs.Common.{◌≡◌, ℕ, ◌⊎◌, Bool, true, false, cond, List, [], ◌∷◌, ◌++◌, Option, Some, None, refl, ap, sym, ◌∙◌, inl, inr, append_assoc, append-nil}
 use Rattle.std.proofs.lemmas.Bool.Decides.{eqb_tells}
-use Rattle.std.specs.Prelude.{◌==◌, ◌&&◌, is_none, Result, Ok, Err}
+use Rattle.std.specs.Prelude.{◌==◌, ◌&&◌, is_none}
 use Rattle.std.specs.List.{flat_map, AllByRecursion}
 use Rattle.ppp_words.specs.Octets.{is_white, is_quote, is_plain, line_after, line_behind}
 use Rattle.ppp_words.specs.Parts.{Mark, Bare, Escaped, Part, Loose, Quoted, mark_spelled, part_spelled, mark_meant, part_meant, backslash_meant, StandsWithin, IsPart, BeginsNoComment, AreParts}
 use Rattle.ppp_words.specs.Text as made
 use Rattle.ppp_words.specs.Text.{Text, last_backslash, spelled, EndsLine, EndsWord, IsText}
+use Rattle.ppp_words.specs.Front.{Front}
 use Rattle.ppp_words.specs.PlacedWord.{PlacedWord}
-use Rattle.ppp_words.specs.Words.{with_words, word_of, last_words, words_from}
+use Rattle.ppp_words.specs.Words.{all_words, with_words, word_of, last_words, words_from}
 use Rattle.ppp_words.specs.Steps.{State, begun, longer, pushed, behind, ended, step, run}
 use Rattle.ppp_words.specs.declared.backslash.Backslash.{Backslash}
 use Rattle.ppp_words.specs.declared.backslash.Backslash.TheVariants.{Dropped, Kept}
@@ -190,13 +191,16 @@ comment_ends b line ws (made.WordOf parts text) ends = absurd ends
 comment_ends b line ws (made.Trailing parts) ends = absurd ends
 comment_ends b line ws (made.Unclosed parts q marks last) ends = absurd ends
 
-with_words_twice : (ws vs : List PlacedWord) (read : Result (List PlacedWord) ℕ) → with_words (ws ++ vs) read ≡ with_words ws (with_words vs read)
-with_words_twice ws vs (Ok words) = ap Ok (append_assoc ws vs words)
-with_words_twice ws vs (Err line) = refl
+-- words as a front with this open quote, or with none
+abbrev front_with : Option ℕ → List PlacedWord → Front
+front_with open_quote words = record { words = words; open_quote = open_quote }
+
+with_words_twice : (ws vs : List PlacedWord) (front : Front) → with_words (ws ++ vs) front ≡ with_words ws (with_words vs front)
+with_words_twice ws vs front = ap (front_with front.open_quote) (append_assoc ws vs front.words)
 
 trailing_run : (b : Backslash) (line : ℕ) (ws : List PlacedWord) (parts : List Part) → AreParts parts →
-    run b (at Outside line None ws) (flat_map part_spelled parts ++ 92 ∷ []) ≡ Ok (ws ++ last_words b line parts)
-trailing_run Dropped line ws [] are = ap Ok (sym (append-nil ws))
+    run b (at Outside line None ws) (flat_map part_spelled parts ++ 92 ∷ []) ≡ all_words (ws ++ last_words b line parts)
+trailing_run Dropped line ws [] are = ap all_words (sym (append-nil ws))
 trailing_run Kept line ws [] are = refl
 trailing_run Dropped line ws (part ∷ parts) are = first_run Dropped line ws part parts (92 ∷ []) are
 trailing_run Kept line ws (part ∷ parts) are = first_run Kept line ws part parts (92 ∷ []) are
@@ -207,12 +211,12 @@ some_run : (b : Backslash) (line : ℕ) (ws : List PlacedWord) (parts : List Par
 some_run b line ws [] rest are = (None, refl)
 some_run b line ws (part ∷ parts) rest are = (Some (word_of b line (part ∷ parts)), first_run b line ws part parts rest are)
 
-never_closed : (b : Backslash) (q l line : ℕ) (w : PlacedWord) (ws : List PlacedWord) (last : Bool) → IsQuote q → run b (at (Quote q l) line (Some w) ws) (last_backslash last) ≡ Err l
+never_closed : (b : Backslash) (q l line : ℕ) (w : PlacedWord) (ws : List PlacedWord) (last : Bool) → IsQuote q → run b (at (Quote q l) line (Some w) ws) (last_backslash last) ≡ front_with (Some l) ws
 never_closed b q l line w ws false quote = refl
 never_closed b q l line w ws true quote = rw quote.backslash refl
 
 unclosed_run : (b : Backslash) (line q : ℕ) (ws : List PlacedWord) (parts : List Part) (marks : List Mark) (last : Bool) → AreParts parts → IsQuote q → AllByRecursion (StandsWithin q) marks →
-    run b (at Outside line None ws) (flat_map part_spelled parts ++ (q ∷ flat_map mark_spelled marks ++ last_backslash last)) ≡ Err (line_behind line (flat_map part_spelled parts))
+    run b (at Outside line None ws) (flat_map part_spelled parts ++ (q ∷ flat_map mark_spelled marks ++ last_backslash last)) ≡ front_with (Some (line_behind line (flat_map part_spelled parts))) ws
 unclosed_run b line q ws parts marks last are quote stand =
     let before = some_run b line ws parts (q ∷ flat_map mark_spelled marks ++ last_backslash last) are in
     let l = line_behind line (flat_map part_spelled parts) in
@@ -223,7 +227,7 @@ unclosed_run b line q ws parts marks last are quote stand =
 
 -- What is read of a text is what it means.
 pub text_run : (b : Backslash) (line : ℕ) (ws : List PlacedWord) (text : Text) → IsText text → run b (at Outside line None ws) (spelled text) ≡ with_words ws (words_from b line text)
-text_run b line ws made.End is = ap Ok (sym (append-nil ws))
+text_run b line ws made.End is = ap all_words (sym (append-nil ws))
 text_run b line ws (made.White c text) is =
     ap (λ (s : State). run b s (spelled text)) (white_step b line c None ws is.0) ∙ text_run b (line_after line c) ws text is.1
 text_run b line ws (made.Comment octets text) is =
@@ -239,4 +243,5 @@ text_run b line ws (made.WordOf (part ∷ parts) text) is =
 text_run b line ws (made.Trailing parts) is = trailing_run b line ws parts is
 text_run b line ws (made.Unclosed parts q marks last) is =
     rw (append_assoc (flat_map part_spelled parts) (q ∷ flat_map mark_spelled marks) (last_backslash last))
-    (unclosed_run b line q ws parts marks last is.0 (a_quote q is.1) is.2)
+    (unclosed_run b line q ws parts marks last is.0 (a_quote q is.1) is.2
+    ∙ ap (front_with (Some (line_behind line (flat_map part_spelled parts)))) (sym (append-nil ws)))

@@ -1,7 +1,9 @@
 -- What a call answers.
 use Rattle.std.specs.Prelude.{◌≡◌, ℕ, List, Result, Ok, Err}
 use Rattle.std.specs.Global.{Vec}
+use Rattle.ppp_words.specs.Front.{Front}
 use Rattle.ppp_words.specs.PlacedWord.{PlacedWord}
+use Rattle.ppp_words.specs.declared.front.WordsFront.{WordsFront}
 use Rattle.ppp_words.specs.declared.word.Word.{Word}
 use Rattle.ppp_words.specs.declared.fault.WordsFault.{WordsFault}
 use Rattle.ppp_words.specs.declared.fault.WordsFault.TheVariants.{OpenQuote, NoMemory}
@@ -17,3 +19,7 @@ abbrev pub GivesSome : Result (Vec Word) WordsFault → (Result (List PlacedWord
 GivesSome (Ok words) IsRead = IsRead (Ok words.items)
 GivesSome (Err (OpenQuote line)) IsRead = IsRead (Err line)
 GivesSome (Err NoMemory) IsRead = Unit {0}
+
+-- what was read, as its list and line
+abbrev pub front_in : WordsFront → Front
+front_in front = record { words = front.words.items; open_quote = front.open_quote }

@@ -2,6 +2,7 @@ pub mod Octets
 pub mod Parts
 pub mod Text
 pub mod PlacedWord
+pub mod Front
 pub mod Words
 pub mod Steps
 pub mod Reading

@@ -2,6 +2,7 @@
 use Rattle.std.specs.Prelude.{ℕ, ◌==◌, ◌&&◌, if◌then◌else◌, is_none, List, [], ◌∷◌, ◌++◌, Option, Some, None, Result, Ok, Err}
 use Rattle.ppp_words.specs.Octets.{is_white, is_quote, line_after}
 use Rattle.ppp_words.specs.PlacedWord.{PlacedWord}
+use Rattle.ppp_words.specs.Front.{Front, whole}
 use Rattle.ppp_words.specs.declared.backslash.Backslash.{Backslash}
 use Rattle.ppp_words.specs.declared.backslash.Backslash.TheVariants.{Dropped, Kept}
 use Rattle.ppp_words.specs.declared.place.Place.{Place}
@@ -66,14 +67,14 @@ abbrev pub step : Backslash → State → ℕ → State
 step backslash s octet = record (placed backslash s.place s octet) { line = line_after s.line octet }
 
 -- what has been read, at the end
-abbrev pub at_end : Place → State → Result (List PlacedWord) ℕ
-at_end Outside s = Ok (ended s.words s.word)
-at_end Escape s = Ok (ended s.words s.word)
-at_end Comment s = Ok (ended s.words s.word)
-at_end (Quote quote begin) s = Err begin
-at_end (QuoteEscape quote begin) s = Err begin
+abbrev pub at_end : Place → State → Front
+at_end Outside s = record { words = ended s.words s.word; open_quote = None }
+at_end Escape s = record { words = ended s.words s.word; open_quote = None }
+at_end Comment s = record { words = ended s.words s.word; open_quote = None }
+at_end (Quote quote begin) s = record { words = s.words; open_quote = Some begin }
+at_end (QuoteEscape quote begin) s = record { words = s.words; open_quote = Some begin }
 
-abbrev pub run : Backslash → State → List ℕ → Result (List PlacedWord) ℕ
+abbrev pub run : Backslash → State → List ℕ → Front
 run backslash s [] = at_end s.place s
 run backslash s (octet ∷ octets) = run backslash (step backslash s octet) octets
 
@@ -83,4 +84,8 @@ start = record { place = Outside; line = 1; word = None; words = [] }
 
 -- The one reading of the octets: what `Reads` has of them.
 unfoldable pub words_of : Backslash → List ℕ → Result (List PlacedWord) ℕ
-words_of backslash octets = run backslash start octets
+words_of backslash octets = whole (run backslash start octets)
+
+-- The one reading of the octets up to an open quote: what `ReadsFront` has of them.
+unfoldable pub front_of : Backslash → List ℕ → Front
+front_of backslash octets = run backslash start octets

@@ -7,6 +7,7 @@
 
 mod backslash;
 mod fault;
+mod front;
 pub mod laws;
 mod place;
 mod reader;
@@ -15,7 +16,8 @@ mod word;
 
 pub use backslash::Backslash;
 pub use fault::WordsFault;
-pub use splitting::words;
+pub use front::WordsFront;
+pub use splitting::{words, words_in_front};
 pub use word::Word;
 
 #[cfg(test)]

@@ -2,10 +2,10 @@ ghost use Rattle.std.specs.Prelude.{◌≡◌, ◌<◌, OnOk, IfOk, ◌∷◌, [
 ghost use Rattle.ppp_words.specs.Octets.{is_white, is_quote};
 ghost use Rattle.ppp_words.specs.Steps.{begun, pushed, behind, outside, in_quote, placed, step, at_end, start};
 ghost use Rattle.ppp_words.specs.Reading.{state_of};
-ghost use Rattle.ppp_words.specs.Answers.{Gives};
+ghost use Rattle.ppp_words.specs.Answers.{front_in};
 
 use crate::backslash::Backslash;
-use crate::fault::WordsFault;
+use crate::front::WordsFront;
 use crate::place::Place;
 use crate::word::Word;
 use ppp_base::NoMemory;
@@ -177,16 +177,22 @@ impl Reader {
     }
 
     /// The words, at the text's end.
-    pub fn finish(self) -> Result<Vec<Word>, WordsFault>
-        ensures { Gives result (at_end self.place (state_of self)) }
+    pub fn finish(self) -> Result<WordsFront, NoMemory>
+        ensures { IfOk result (λ front. front_in front ≡ at_end self.place (state_of self)) }
     {
-        if let Place::Quote(_, line) | Place::QuoteEscape(_, line) = self.place {
-            return Err(WordsFault::OpenQuote(line));
-        }
         let mut words = self.words;
+        if let Place::Quote(_, line) | Place::QuoteEscape(_, line) = self.place {
+            return Ok(WordsFront {
+                words,
+                open_quote: Some(line),
+            });
+        }
         if let Some(word) = self.word {
             words.push(word)?;
         }
-        Ok(words)
+        Ok(WordsFront {
+            words,
+            open_quote: None,
+        })
     }
 }

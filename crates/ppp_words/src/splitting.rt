@@ -1,25 +1,64 @@
-ghost use Rattle.std.specs.Prelude.{ℕ, List, Result, Ok, Err};
+ghost use Rattle.std.specs.Prelude.{◌≡◌, ℕ, List, Result, Ok, Err, IfOk};
 ghost use Rattle.ppp_words.specs.PlacedWord.{PlacedWord};
-ghost use Rattle.ppp_words.specs.Words.{Reads, HasWords, HasOpenQuote};
-ghost use Rattle.ppp_words.specs.Steps.{words_of};
-ghost use Rattle.ppp_words.specs.Answers.{Gives, GivesSome};
+ghost use Rattle.ppp_words.specs.Words.{Reads, ReadsFront, HasWords, HasOpenQuote};
+ghost use Rattle.ppp_words.specs.Front.{whole};
+ghost use Rattle.ppp_words.specs.Steps.{front_of, words_of};
+ghost use Rattle.ppp_words.specs.Answers.{Gives, GivesSome, front_in};
 
 use crate::backslash::Backslash;
 use crate::fault::WordsFault;
+use crate::front::WordsFront;
 use crate::reader::Reader;
 use crate::word::Word;
+use ppp_base::NoMemory;
 use std::alloc::Global;
 
 // The words, one octet after another.
-#[tactic(auto, unfolding(crate::specs::Steps::words_of))]
-fn read(alloc: Global, text: &[u8], backslash: Backslash) -> Result<Vec<Word>, WordsFault>
-    ensures { Gives result (words_of backslash text.now) }
+#[tactic(auto, unfolding(crate::specs::Steps::front_of))]
+fn read(alloc: Global, text: &[u8], backslash: Backslash) -> Result<WordsFront, NoMemory>
+    ensures { IfOk result (λ front. front_in front ≡ front_of backslash text.now) }
 {
     let mut reader = Reader::new(alloc, backslash);
     for octet in text {
         reader.take(*octet)?;
     }
     reader.finish()
+}
+
+// The words, or the fault where a quote is open.
+fn unless_open(front: WordsFront) -> Result<Vec<Word>, WordsFault>
+    ensures { Gives result (whole (front_in front)) }
+{
+    match front.open_quote {
+        None => Ok(front.words),
+        Some(line) => Err(WordsFault::OpenQuote(line)),
+    }
+}
+
+// The words, read whole.
+#[tactic(auto, using(crate::proofs::ReadLemmas::whole_front))]
+fn read_whole(alloc: Global, text: &[u8], backslash: Backslash) -> Result<Vec<Word>, WordsFault>
+    ensures { Gives result (words_of backslash text.now) }
+{
+    let front = read(alloc, text, backslash)?;
+    unless_open(front)
+}
+
+/// The words of a text up to its end, or those in front of the word with a quote that is open there, and that quote's line.
+///
+/// The words are those that `words` gives of the text in front of that word.
+#[tactic(auto, using(crate::proofs::ReadLemmas::front_read))]
+pub fn words_in_front(
+    alloc: Global,
+    text: &[u8],
+    backslash: Backslash,
+) -> Result<WordsFront, NoMemory>
+    // They are those of the text.
+    ensures read { IfOk result (λ front. ReadsFront backslash text.now (front_in front)) }
+    // The same, with the reading of the text as a value.
+    ensures exact { IfOk result (λ front. front_in front ≡ front_of backslash text.now) }
+{
+    read(alloc, text, backslash)
 }
 
 /// The words of a text in their order, each with its line.
@@ -36,5 +75,5 @@ pub fn words(alloc: Global, text: &[u8], backslash: Backslash) -> Result<Vec<Wor
     // The same, with the reading of the text as a value.
     ensures exact { Gives result (words_of backslash text.now) }
 {
-    read(alloc, text, backslash)
+    read_whole(alloc, text, backslash)
 }

@@ -150,3 +150,24 @@ fn open_quotes(rt: HostRuntime) {
         }
     }
 }
+
+#[test]
+fn words_before_an_open_quote(rt: HostRuntime) -> Result<(), Fail> {
+    let texts: [(&[u8], &[&[u8]], Option<usize>); 6] = [
+        (b"", &[], None),
+        (b"frob 'open", &[b"frob"], Some(1)),
+        (b"a\nb'c\nd", &[b"a"], Some(2)),
+        (b"'a\nb'\"c", &[], Some(2)),
+        (b"a ' b", &[b"a"], Some(1)),
+        (b"a 'b' c", &[b"a", b"b", b"c"], None),
+    ];
+    for (text, wanted, open_quote) in texts {
+        let front = words_in_front(rt.alloc(), text, Backslash::Dropped)?;
+        assert_eq!(rt; front.open_quote, open_quote);
+        assert_eq!(rt; front.words.len(), wanted.len());
+        for (word, octets) in front.words.iter().zip(wanted) {
+            assert_eq!(rt; word.octets(), *octets);
+        }
+    }
+    Ok(())
+}

@@ -7,8 +7,8 @@ use Rattle.ppp_words.proofs.splitting.words.Goals as goal
 
 pub returns : goal.returns
 returns c = record {
-  read = gives_some c.read.result (words_of c.args.backslash c.args.text.now) (Reads c.args.backslash c.args.text.now) c.read.ensures (words_read c.args.backslash c.args.text.now);
-  words = λ words has. subst (Gives c.read.result) (read_words c.args.backslash c.args.text.now _ has) c.read.ensures;
-  open_quote = λ line has. subst (Gives c.read.result) (read_words c.args.backslash c.args.text.now _ has) c.read.ensures;
-  exact = c.read.ensures;
+  read = gives_some c.read_whole.result (words_of c.args.backslash c.args.text.now) (Reads c.args.backslash c.args.text.now) c.read_whole.ensures (words_read c.args.backslash c.args.text.now);
+  words = λ words has. subst (Gives c.read_whole.result) (read_words c.args.backslash c.args.text.now _ has) c.read_whole.ensures;
+  open_quote = λ line has. subst (Gives c.read_whole.result) (read_words c.args.backslash c.args.text.now _ has) c.read_whole.ensures;
+  exact = c.read_whole.ensures;
 }
