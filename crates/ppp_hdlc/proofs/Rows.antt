@@ -1,9 +1,9 @@
 -- The worked rows, of the definitions alone: no code has a part in them.
-use Rattle.std.proofs.Common.{◌≡◌, ℕ, zero, suc, ◌+◌, ◌<◌, true, false, List, [], ◌∷◌, take, drop, refl, arith, lit≤}
+use Rattle.std.proofs.Common.{◌≡◌, ℕ, zero, suc, ◌+◌, ◌<◌, true, false, List, [], Some, None, ◌∷◌, take, drop, refl, arith, lit≤}
 use Rattle.ppp_hdlc.specs.declared.fault.FrameFault.TheVariants.{Aborted, Short, BadFcs}
 use Rattle.ppp_hdlc.specs.declared.heard.Heard.TheVariants.{Nothing, Frame, Dropped}
 use Rattle.ppp_hdlc.specs.Residue.{bits, number, plus, zeros, divisor, bring_down, remainder, with_first_complemented, Residue, word_of, fcs_of}
-use Rattle.ppp_hdlc.specs.Frames.{Frames, unescaped, ends_escaping, answer, stamped, told}
+use Rattle.ppp_hdlc.specs.Frames.{Frames, unescaped, ends_escaping, answer, stamped, told, content}
 use Rattle.ppp_hdlc.specs.Deframing.{Deframing, fresh, fed, heard_at}
 use Rattle.ppp_hdlc.specs.Spans.{IsSpan, fed_all, heard_in}
 use Rattle.ppp_hdlc.specs.Encoding.{encoding, enclosed, flagged, escaped, with_fcs, fcs_octets, body}
@@ -42,6 +42,32 @@ broken_heard = refl
 broken_told : told (stamped 0 broken) ≡ Dropped Aborted ∷ Dropped Short ∷ []
 unfolding told broken Frames answer unescaped ends_escaping Residue bits number plus zeros divisor bring_down remainder with_first_complemented
 broken_told = refl
+
+-- What a part's octets are, two of check sum behind them: with and without address and control, a protocol of one octet and of two; an even
+-- octet behind an even one is no protocol, and neither is ff.
+whole_header : content (0xff ∷ 0x03 ∷ 0x00 ∷ 0x21 ∷ 0x45 ∷ 0 ∷ 0 ∷ []) ≡ Some (0x0021, 0x45 ∷ [])
+whole_header = refl
+
+short_protocol : content (0xff ∷ 0x03 ∷ 0x21 ∷ 0x45 ∷ 0 ∷ 0 ∷ []) ≡ Some (0x0021, 0x45 ∷ [])
+short_protocol = refl
+
+no_address : content (0xc0 ∷ 0x21 ∷ 0x45 ∷ 0 ∷ 0 ∷ []) ≡ Some (0xc021, 0x45 ∷ [])
+no_address = refl
+
+protocol_alone : content (0x21 ∷ 0 ∷ 0 ∷ []) ≡ Some (0x0021, [])
+protocol_alone = refl
+
+two_even : content (0xff ∷ 0x03 ∷ 0xc0 ∷ 0x22 ∷ 0 ∷ 0 ∷ []) ≡ None
+two_even = refl
+
+no_protocol : content (0xff ∷ 0x03 ∷ 0 ∷ 0 ∷ []) ≡ None
+no_protocol = refl
+
+ff_first : content (0xff ∷ 0x21 ∷ 0 ∷ 0 ∷ []) ≡ None
+ff_first = refl
+
+ff_behind_address : content (0xff ∷ 0x03 ∷ 0xff ∷ 0x03 ∷ 0x21 ∷ 0 ∷ 0 ∷ []) ≡ None
+ff_behind_address = refl
 
 -- The same by spans: each octet's answer, of a deframer at the beginning whose map is 0.
 begun : Deframing
