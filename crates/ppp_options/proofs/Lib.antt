@@ -1,0 +1,9 @@
+mod LastLemmas
+mod ReadsLemmas
+mod FileLemmas
+mod PlaceLemmas
+mod LinkLemmas
+mod CourseLemmas
+mod ReadLemmas
+mod SectionLemmas
+mod WholeLemmas
