@@ -7,3 +7,5 @@ mod CourseLemmas
 mod ReadLemmas
 mod SectionLemmas
 mod WholeLemmas
+mod Rows
+mod LawLemmas

@@ -10,6 +10,7 @@ mod connect;
 mod file_words;
 mod given;
 mod last;
+pub mod laws;
 mod link;
 mod links;
 mod placing;
