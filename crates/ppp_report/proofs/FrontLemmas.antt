@@ -1,5 +1,5 @@
 -- What may follow in a report, line by line.
-use Rattle.std.proofs.Common.{◌≡◌, ◌+◌, ◌≤◌, ◌<◌, ◌^◌, ℕ, suc, Bool, true, false, List, [], ◌∷◌, ◌++◌, length, map, get_or, Option, Some, None, refl, sym, ap, ◌∙◌, subst, inl, inr, arith, decimal, drop}
+use Rattle.std.proofs.Common.{◌≡◌, ◌+◌, ◌<◌, ℕ, Bool, true, false, List, [], ◌∷◌, ◌++◌, length, map, get_or, Option, Some, None, refl, sym, ap, ◌∙◌, subst, inl, inr, arith, drop}
 use Rattle.std.specs.Prelude.{◌↔◌, ◌==◌}
 use Rattle.std.proofs.lemmas.Bool.Decides.{eqb_tells}
 use Rattle.std.proofs.lemmas.Fmt.{decimal_injective}
@@ -9,7 +9,7 @@ use Rattle.ppp_mark.specs.declared.report.LogName.{LogName}
 use Rattle.ppp_mark.specs.declared.report.LogName.TheVariants.{Link, Unit as OfUnit}
 use Rattle.ppp_report.specs.Report.{AreFit, AreSections, Fills, IsObject, MayCome, Section, end_word, heading, least_after, links_after, mark_word, report_lines, status_lines, status_word}
 use Rattle.ppp_report.specs.Places.{FromMarks, FromNext, Line}
-use Rattle.ppp_report.proofs.MarkLemmas.{fit_one, no_mark}
+use Rattle.ppp_report.proofs.MarkLemmas.{no_mark}
 
 -- ---- no line is two things
 
@@ -73,7 +73,13 @@ next_heading_section : (links least : ℕ) (name : LogName) (tail : List Line) (
 next_heading_section links least name tail s ss object are text =
     let same : s.name ≡ name = name_one s.name name (may_is_object links least s.name are.0) object (sym (head_is _ _ _ _ text)) in
     subst (λ n. FromMarks links least n [] tail) same (record {
-      marks = s.marks; status = s.status; sections = ss; fit = are.2; fills = are.1; are = are.3; text = tail_is _ _ _ _ text
+      marks = s.marks;
+      status = s.status;
+      sections = ss;
+      fit = are.2;
+      fills = are.1;
+      are = are.3;
+      text = tail_is _ _ _ _ text;
     })
 
 next_heading_in : (links least : ℕ) (name : LogName) (tail : List Line) (sections : List Section) → IsObject name
@@ -117,17 +123,25 @@ next_mark_in : (links least : ℕ) (name : LogName) (past : List Mark) (m : Mark
     → mark_word m ∷ tail ≡ map mark_word marks ++ (status_lines status ++ report_lines sections) → FromMarks links least name (m ∷ past) tail
 next_mark_in links least name past m tail fit [] status sections fits fills are text = absurd (mark_not_next name m tail status sections fit text)
 next_mark_in links least name past m tail fit (n ∷ ns) status sections fits fills are text = record {
-  marks = ns; status = status; sections = sections; fit = fits.2;
+  marks = ns;
+  status = status;
+  sections = sections;
+  fit = fits.2;
   fills = fills_any name (past ++ n ∷ ns) (m ∷ past ++ ns) status (some_behind past n ns) (omega arith) fills;
-  are = are; text = tail_is _ _ _ _ text;
+  are = are;
+  text = tail_is _ _ _ _ text;
 }
 
 next_mark_back : (links least : ℕ) (name : LogName) (past : List Mark) (m : Mark) (tail : List Line) → AreFit name (m ∷ [])
     → FromMarks links least name (m ∷ past) tail → FromMarks links least name past (mark_word m ∷ tail)
 next_mark_back links least name past m tail fit f = record {
-  marks = m ∷ f.marks; status = f.status; sections = f.sections; fit = (fit.0, fit.1, f.fit);
+  marks = m ∷ f.marks;
+  status = f.status;
+  sections = f.sections;
+  fit = (fit.0, fit.1, f.fit);
   fills = fills_any name (m ∷ past ++ f.marks) (past ++ m ∷ f.marks) f.status (omega arith) (some_behind past m f.marks) f.fills;
-  are = f.are; text = ap (λ ls. mark_word m ∷ ls) f.text;
+  are = f.are;
+  text = ap (λ ls. mark_word m ∷ ls) f.text;
 }
 
 pub next_mark : (links least : ℕ) (name : LogName) (past : List Mark) (m : Mark) (tail : List Line) → AreFit name (m ∷ [])
@@ -232,8 +246,12 @@ ends_marks links least (Link link) past = record {
 ends_marks links least (OfUnit unit) past = record {
   tail = mark_word some_mark ∷ end_word ∷ [];
   may = record {
-    marks = some_mark ∷ []; status = None; sections = []; fit = some_mark_fits unit;
+    marks = some_mark ∷ [];
+    status = None;
+    sections = [];
+    fit = some_mark_fits unit;
     fills = fills_any (OfUnit unit) (some_mark ∷ []) (past ++ some_mark ∷ []) None (omega arith) (some_behind past some_mark []) tt;
-    are = tt; text = refl;
+    are = tt;
+    text = refl;
   };
 }

@@ -1,11 +1,10 @@
 -- The kinds of the table, found by their names.
-use Rattle.std.proofs.Common.{◌≡◌, ◌+◌, ◌-◌, ◌*◌, ◌%◌, ◌≤◌, ◌<◌, ℕ, Bool, true, false, List, [], ◌∷◌, length, get_or, Option, Some, None, refl, ap, sym, ◌∙◌, subst, inl, inr, arith, cond}
+use Rattle.std.proofs.Common.{◌≡◌, ◌+◌, ◌-◌, ◌*◌, ◌%◌, ◌≤◌, ℕ, Bool, true, false, List, [], ◌∷◌, length, get_or, Option, Some, None, refl, ap, sym, ◌∙◌, subst, inl, inr, arith}
 use Rattle.std.specs.Prelude.{is_some, nat_le, ◌&&◌, ◌==◌}
 use Rattle.std.specs.List.{list_all}
 use Rattle.std.proofs.lemmas.Bool.Decides.{eqb_tells, nat_tests}
 use Rattle.ppp_base.specs.declared.hook_target.HookTarget.{HookTarget}
-use Rattle.ppp_base.specs.declared.hook_target.HookTarget.TheVariants.{Link, Unit as OfUnit}
-use Rattle.ppp_mark.specs.Table.{Row, is_kind, is_owner, name_in, name_of, owner_in, row_in, row_of, stands_in, table}
+use Rattle.ppp_mark.specs.Table.{Row, is_kind, name_in, name_of, owner_in, row_in, row_of, stands_in, table}
 use Rattle.ppp_mark.proofs.LinesLemmas.{is_free}
 use Rattle.ppp_report.specs.declared.kinds.TheConstants.{KINDS}
 

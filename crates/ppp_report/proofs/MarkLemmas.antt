@@ -1,15 +1,13 @@
 -- The line of a mark: how it is spelled, and that no other mark has it.
-use Rattle.std.proofs.Common.{◌≡◌, ◌<◌, ◌≤◌, ◌^◌, ◌⊎◌, ℕ, Bool, true, false, List, [], ◌∷◌, ◌++◌, length, get_or, drop, refl, sym, ap, ap₂, subst, ◌∙◌, arith, inl, inr, append_assoc, append-nil, length-append, decimal, cond}
-use Rattle.std.specs.Prelude.{◌&&◌}
+use Rattle.std.proofs.Common.{◌≡◌, ◌<◌, ◌^◌, ℕ, Bool, true, false, List, [], ◌∷◌, ◌++◌, length, get_or, refl, sym, ap, ◌∙◌, arith, inl, inr, append_assoc, append-nil, length-append, decimal}
 use Rattle.std.specs.List.{list_all}
-use Rattle.std.proofs.Math.Dec.{eqb}
 use Rattle.std.proofs.lemmas.Bool.Decides.{eqb_tells}
 use Rattle.std.proofs.lemmas.Fmt.{decimal_injective, decimal_nonempty}
 use Rattle.ppp_base.specs.Numbers.{is_digit}
 use Rattle.ppp_mark.specs.declared.mark.Mark.{Mark}
 use Rattle.ppp_mark.specs.declared.report.LogName.{LogName}
 use Rattle.ppp_mark.specs.Lines.{lines_of, onto_first}
-use Rattle.ppp_mark.specs.Table.{is_kind, name_of, stands_in}
+use Rattle.ppp_mark.specs.Table.{is_kind, name_of}
 use Rattle.ppp_mark.proofs.LinesLemmas.{free_append, is_free, is_word, line_alone, line_then, no_lines, number_line, number_word, split_one, word_is_clean}
 use Rattle.ppp_report.specs.Report.{AreFit, Fits, mark_word, target_of}
 use Rattle.ppp_report.specs.Text.{After}

@@ -1,5 +1,5 @@
 -- Where a reader of a report stands: what it has seen has no fault, and what may follow.
-use Rattle.std.proofs.Common.{◌≡◌, ◌+◌, ◌≤◌, ◌<◌, ◌⊎◌, inl, inr, ℕ, suc, zero, List, [], ◌∷◌, ◌++◌, length, map, take, drop, Option, Some, None, refl, sym, ap, ◌∙◌, subst, arith, append_assoc, append-nil, length-append}
+use Rattle.std.proofs.Common.{◌≡◌, ◌+◌, ◌≤◌, ◌<◌, ◌⊎◌, inl, inr, ℕ, suc, zero, List, [], ◌∷◌, ◌++◌, length, map, take, drop, refl, sym, ap, ◌∙◌, subst, arith, append_assoc, append-nil, length-append}
 use Rattle.std.specs.Prelude.{◌↔◌, is_some}
 use mathlib.Core.List.{reverse}
 use Rattle.std.proofs.lemmas.List.{reverse-append, reverse-reverse, length-reverse}
@@ -10,8 +10,8 @@ use Rattle.ppp_mark.specs.declared.mark.Mark.{Mark}
 use Rattle.ppp_mark.specs.declared.report.LogName.{LogName}
 use Rattle.ppp_mark.specs.declared.report.LogName.TheVariants.{Link, Unit as OfUnit}
 use Rattle.ppp_mark.specs.Scripts.{LogLaw, LogSettled, said_in}
-use Rattle.ppp_report.specs.BadLine.{AreMarksOf, BreaksLaw, Disagrees, HasFault, IsFirstBad, IsFront, LinkUnsettled, NoEnd, NoLine, UnitUnsettled, back}
-use Rattle.ppp_report.specs.Report.{AreFit, IsObject, MayCome, end_word, heading, least_after, links_after, mark_word, report_lines, status_word}
+use Rattle.ppp_report.specs.BadLine.{AreMarksOf, BreaksLaw, Disagrees, HasFault, IsFirstBad, LinkUnsettled, NoEnd, NoLine, UnitUnsettled, back}
+use Rattle.ppp_report.specs.Report.{AreFit, IsObject, MayCome, end_word, heading, mark_word, status_word}
 use Rattle.ppp_report.specs.Places.{At, FromMarks, FromNext, In, Line, onto}
 use Rattle.ppp_report.proofs.FrontLemmas.{ends_marks, ends_next, heading_end, heading_status, mark_end, mark_heading, mark_status, may_is_object, name_one, next_heading, next_mark, next_status, no_first, no_next, no_status, nothing_behind_end, status_end, unit_over}
 use Rattle.ppp_report.proofs.MarkLemmas.{fit_one}
@@ -49,7 +49,9 @@ long_is lines seen tail is = ap length (is ∙ onto_is seen tail) ∙ length-app
 -- a report goes on behind them, or none does
 front_no : (lines seen tail more : List Line) (n : ℕ) → lines ≡ onto seen tail → n ≡ length seen → FromNext 0 0 (onto seen more) → NoLine lines n → ⊥
 front_no lines seen tail more n is counted f x = x.other (record {
-  sections = f.sections; rest = more; are = f.are;
+  sections = f.sections;
+  rest = more;
+  are = f.are;
   text = sym f.text ∙ onto_is seen more ∙ ap (λ ls. ls ++ more) (sym (take_is lines seen tail n is counted));
 })
 
@@ -58,7 +60,8 @@ no_line lines seen tail n is counted some none = record {
   from_one = some;
   there = omega (arith, counted, long_is lines seen tail is);
   other = λ front. none front.rest (record {
-    sections = front.sections; are = front.are;
+    sections = front.sections;
+    are = front.are;
     text = onto_is seen front.rest ∙ ap (λ ls. ls ++ front.rest) (sym (take_is lines seen tail n is counted)) ∙ sym front.text;
   });
 }
@@ -101,7 +104,11 @@ mark_last : (name other : LogName) (m : Mark) (past : List Mark) (before earlier
     → mark_word m ∷ before ≡ map mark_word past ++ heading other ∷ earlier → LastMark name m other past before
 mark_last name other m [] before earlier fit object fits e = absurd (mark_heading name other m fit (sym (head_is _ _ _ _ e)))
 mark_last name other m (n ∷ past) before earlier fit object fits e = record {
-  mark = n; older = past; is = refl; fit = (fits.0, fits.1, tt); line = head_is _ _ _ _ e;
+  mark = n;
+  older = past;
+  is = refl;
+  fit = (fits.0, fits.1, tt);
+  line = head_is _ _ _ _ e;
   marks = record { object = object; fit = fits.2; earlier = earlier; text = tail_is _ _ _ _ e };
 }
 
@@ -174,7 +181,9 @@ passed_mark lines links least name past m rest count i fit = passed_in lines lin
 
 pub begin : (lines : List Line) → At lines 0 0 lines 0
 begin lines = record {
-  seen = []; is = refl; counted = refl;
+  seen = [];
+  is = refl;
+  counted = refl;
   clean = λ n low. no_fault lines n
       (λ x. omega (arith, x.from_one, low))
       (λ x. none_in x.name x.past x.marks.earlier (subst (λ ls. ls ≡ map mark_word x.past ++ heading x.name ∷ x.marks.earlier) (empty n low) x.marks.text))
@@ -188,10 +197,13 @@ begin lines = record {
     none_in : (name : LogName) (past : List Mark) (earlier : List Line) → [] ≡ map mark_word past ++ heading name ∷ earlier → ⊥
     none_in name [] earlier e = absurd (cc e)
     none_in name (m ∷ past) earlier e = absurd (cc e)
+
     no_lines_in : (s : ℕ) (before : List Line) → [] ≡ status_word s ∷ before → ⊥
     no_lines_in s before e = absurd (cc e)
+
     zero_is : (n : ℕ) → n ≤ 0 → n ≡ 0
     zero_is n low = omega (arith, low)
+
     empty : (n : ℕ) → n ≤ 0 → back lines n ≡ []
     empty n low = ap (λ k. back lines k) (zero_is n low)
 
@@ -208,7 +220,9 @@ start lines links least name rest count a may =
     let latest : (other : LogName) (marks : List Mark) → AreMarksOf other marks seen → (other ≡ name) × (marks ≡ []) =
     λ other marks are. heading_last name other marks a.seen are.earlier object are.object are.fit are.text in
     record {
-      seen = seen; is = a.is; counted = counted;
+      seen = seen;
+      is = a.is;
+      counted = counted;
       before = λ n low. a.clean n (omega (arith, low));
       front = front_no lines seen rest more.tail (count + 1) a.is counted ((fits more.tail).1 more.may);
       lawful = λ x. subst (λ p. ¬ LogLaw 0 p) (latest x.name x.past (subst (λ ls. AreMarksOf x.name x.past ls) back_seen x.marks)).1 x.breaks nothing_yet;
@@ -236,11 +250,13 @@ add lines links least name past m rest count i fit law =
     let more = ends_marks links least name (m ∷ past) in
     let latest : (other : LogName) (marks : List Mark) → AreMarksOf other marks seen → (other ≡ name) × (marks ≡ m ∷ past) =
     λ other marks are.
-        let l = mark_last name other m marks i.seen are.earlier fit are.object are.fit are.text in
-        let before = i.latest other l.older l.marks in
-        (before.0, same_marks name other m past l.older marks l.mark before.0 before.1 l.is fit l.fit l.line) in
+    let l = mark_last name other m marks i.seen are.earlier fit are.object are.fit are.text in
+    let before = i.latest other l.older l.marks in
+    (before.0, same_marks name other m past l.older marks l.mark before.0 before.1 l.is fit l.fit l.line) in
     record {
-      seen = seen; is = i.is; counted = counted;
+      seen = seen;
+      is = i.is;
+      counted = counted;
       before = passed_mark lines links least name past m rest count i fit;
       front = front_no lines seen rest more.tail (count + 1) i.is counted ((fits more.tail).1 more.may);
       lawful = λ x. subst (λ p. ¬ LogLaw 0 p) (latest x.name x.past (subst (λ ls. AreMarksOf x.name x.past ls) back_seen x.marks)).1 x.breaks law;
@@ -258,9 +274,12 @@ broken lines links least name past m rest count i fit breaks =
     let counted : count + 1 ≡ length seen = omega (arith, i.counted) in
     bad_at lines (count + 1) (inr (inl (record {
       there = omega (arith, counted, long_is lines seen rest i.is);
-      name = name; past = m ∷ past;
+      name = name;
+      past = m ∷ past;
       marks = record {
-        object = i.marks.object; fit = (fit.0, fit.1, i.marks.fit); earlier = i.marks.earlier;
+        object = i.marks.object;
+        fit = (fit.0, fit.1, i.marks.fit);
+        earlier = i.marks.earlier;
         text = back_is lines seen rest (count + 1) i.is counted ∙ ap (λ ls. mark_word m ∷ ls) i.marks.text;
       };
       breaks = breaks;
@@ -286,7 +305,9 @@ status_taken lines links least link past s rest count i small settled =
     let none : (name : LogName) (marks : List Mark) → AreMarksOf name marks (back lines (count + 1)) → ⊥ =
     λ name marks are. status_last name marks s i.seen are.earlier are.fit (sym back_seen ∙ are.text) in
     record {
-      seen = seen; is = i.is; counted = counted;
+      seen = seen;
+      is = i.is;
+      counted = counted;
       clean = λ n low. passed lines (count + 1) (passed_link lines links least link past (status_word s ∷ rest) count i)
           (no_fault lines (count + 1)
           (front_no lines seen rest (end_word ∷ []) (count + 1) i.is counted ((fits (end_word ∷ [])).1 (ends_next link least)))
@@ -305,9 +326,13 @@ status_unsettled lines links least link past s rest count i unsettled =
     let counted : count + 1 ≡ length seen = omega (arith, i.counted) in
     bad_at lines (count + 1) (inr (inr (inl (record {
       there = omega (arith, counted, long_is lines seen rest i.is);
-      link = link; past = past; status = s; before = i.seen;
+      link = link;
+      past = past;
+      status = s;
+      before = i.seen;
       line = back_is lines seen rest (count + 1) i.is counted;
-      marks = i.marks; unsettled = unsettled;
+      marks = i.marks;
+      unsettled = unsettled;
     })))) (passed_link lines links least link past (status_word s ∷ rest) count i)
 
 pub status_bad : (lines : List Line) (links least link : ℕ) (past : List Mark) (line : Line) (rest : List Line) (count : ℕ)
@@ -370,7 +395,8 @@ pub unit_unsettled : (lines : List Line) (links least unit : ℕ) (past : List M
 unit_unsettled lines links least unit past rest count i no_mark unsettled =
     bad_at lines count (inr (inr (inr (inl (record {
       there = omega (arith, i.counted, long_is lines i.seen rest i.is);
-      unit = unit; past = past;
+      unit = unit;
+      past = past;
       marks = subst (λ ls. AreMarksOf (OfUnit unit) past ls) (sym (back_is lines i.seen rest count i.is i.counted)) i.marks;
       over = λ m more fit e. no_mark m more fit (sym (drop_is lines i.seen rest count i.is i.counted) ∙ e);
       unsettled = unsettled;
@@ -380,7 +406,9 @@ pub unit_taken : (lines : List Line) (links least unit : ℕ) (m : Mark) (past :
     → ((n : Mark) (more : List Line) → AreFit (OfUnit unit) (n ∷ []) → rest ≡ mark_word n ∷ more → ⊥) → LogSettled (m ∷ past) (is_some (open_in (said_in (m ∷ past))))
     → At lines links (unit + 1) rest count
 unit_taken lines links least unit m past rest count i no_mark settled = record {
-  seen = i.seen; is = i.is; counted = i.counted;
+  seen = i.seen;
+  is = i.is;
+  counted = i.counted;
   clean = λ n low. passed_settled lines links least (OfUnit unit) (m ∷ past) rest count i settled n (omega (arith, low));
   fits = λ line more tail is. two _ _ _ (i.fits (line ∷ tail))
       (unit_over links least unit m past line tail (λ n fit e. no_mark n more fit (is ∙ ap (λ l. l ∷ more) e)));

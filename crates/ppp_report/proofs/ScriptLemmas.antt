@@ -1,11 +1,10 @@
 -- What one more mark says of scripts.
-use Rattle.std.proofs.Common.{◌≡◌, ◌⊎◌, ℕ, Bool, true, false, List, [], ◌∷◌, Option, Some, None, MatchOption, refl, sym, ap, ◌∙◌, subst, inl, inr, arith, cond}
+use Rattle.std.proofs.Common.{◌≡◌, ◌⊎◌, ℕ, Bool, true, false, List, [], ◌∷◌, Option, Some, None, MatchOption, refl, sym, subst, inl, inr, arith}
 use Rattle.std.specs.Prelude.{◌==◌, ◌||◌, is_some}
-use Rattle.std.proofs.lemmas.Bool.Decides.{nat_tests}
 use Rattle.ppp_hooks.specs.HookMark.{HookMark, Opened, Closed, Started, Ended}
 use Rattle.ppp_hooks.specs.HookPast.{open_in}
 use Rattle.ppp_hooks.specs.HookPlace.{MayStand, is_among, openings_in}
-use Rattle.ppp_mark.specs.declared.kind.TheConstants.{AUTH_CLOSED, ENDED, IP_CLOSED, START}
+use Rattle.ppp_mark.specs.declared.kind.TheConstants.{AUTH_CLOSED, ENDED, IP_CLOSED}
 use Rattle.ppp_mark.specs.declared.mark.Mark.{Mark}
 use Rattle.ppp_mark.specs.Scripts.{MayStandMark, answer_of, said_with}
 use Rattle.ppp_report.specs.declared.scripts.Scripts.{Scripts}

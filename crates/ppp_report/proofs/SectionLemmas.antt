@@ -1,10 +1,8 @@
 -- The marks of a log, read one by one.
-use Rattle.std.proofs.Common.{◌≡◌, ◌+◌, ◌-◌, ◌≤◌, ◌<◌, ◌⊎◌, ℕ, zero, suc, Bool, true, false, List, [], ◌∷◌, ◌++◌, length, map, refl, sym, ap, ◌∙◌, subst, inl, inr, arith, cond}
-use Rattle.std.specs.Prelude.{◌==◌, ◌&&◌, ◌||◌, is_some, reverse, if◌then◌else◌}
+use Rattle.std.proofs.Common.{◌≡◌, ◌+◌, ◌≤◌, ◌<◌, ◌⊎◌, ℕ, Bool, true, false, List, [], ◌∷◌, ◌++◌, length, map, refl, sym, ap, ◌∙◌, inl, inr, arith}
+use Rattle.std.specs.Prelude.{◌==◌, ◌&&◌, ◌||◌, if◌then◌else◌}
 use Rattle.std.proofs.lemmas.Bool.Decides.{nat_tests}
 use Rattle.ppp_hooks.specs.HookMark.{HookMark, Opened, Closed, Started, Ended}
-use Rattle.ppp_hooks.specs.HookPast.{IsSettled, open_in}
-use Rattle.ppp_hooks.specs.Settled.{Settled}
 use Rattle.ppp_hooks.proofs.OneMore.{none_yet, settled_is}
 use Rattle.ppp_hooks.specs.HookPlace.{is_among, openings_in}
 use Rattle.ppp_mark.specs.declared.mark.Mark.{Mark}
@@ -115,7 +113,7 @@ closed_kinds k e = elim (either (k == AUTH_CLOSED) (k == IP_CLOSED) e) [ inl a �
 
 opened_by : (o c s e : Bool) (m : Mark) (hooks : List HookMark) (n : ℕ) → c ≡ false
     → is_among n (openings_in (if o then Opened m.z ∷ hooks else if c then Closed m.z ∷ hooks else if s then Started (m.x == 1) m.z ∷ hooks
-        else if e then Ended (answer_of m.x m.y) m.z ∷ hooks else hooks))
+    else if e then Ended (answer_of m.x m.y) m.z ∷ hooks else hooks))
     ≡ ((o && m.z == n) || is_among n (openings_in hooks))
 opened_by true c s e m hooks n h = refl
 opened_by false true s e m hooks n h = absurd (cc h)
@@ -140,17 +138,35 @@ more of text rest since others begin count recent number scripts next m s fit li
       | inl c ↦
           let now = closed c in
           record {
-            past = m ∷ s.past; fit = fits; lines = all; counted = omega (arith, s.counted); law = law; tells = tells; within = omega (arith, s.within, shorter);
-            marks = []; marks_fit = tt; marks_lines = ap lines_of now.0; marks_counted = now.1; fewer = omega (arith, now.1);
+            past = m ∷ s.past;
+            fit = fits;
+            lines = all;
+            counted = omega (arith, s.counted);
+            law = law;
+            tells = tells;
+            within = omega (arith, s.within, shorter);
+            marks = [];
+            marks_fit = tt;
+            marks_lines = ap lines_of now.0;
+            marks_counted = now.1;
+            fewer = omega (arith, now.1);
             openings = λ n. ap (λ h. is_among n (openings_in h)) (said_closed m (said_in s.past) (closed_kinds m.kind c));
           }
       | inr c ↦
           let now = other c in
           record {
-            past = m ∷ s.past; fit = fits; lines = all; counted = omega (arith, s.counted); law = law; tells = tells; within = omega (arith, s.within, shorter);
-            marks = s.marks ++ m ∷ []; marks_fit = snoc_fit of s.marks m s.marks_fit fit;
+            past = m ∷ s.past;
+            fit = fits;
+            lines = all;
+            counted = omega (arith, s.counted);
+            law = law;
+            tells = tells;
+            within = omega (arith, s.within, shorter);
+            marks = s.marks ++ m ∷ [];
+            marks_fit = snoc_fit of s.marks m s.marks_fit fit;
             marks_lines = ap lines_of now.0 ∙ s.marks_lines ∙ ap (λ ls. map mark_word s.marks ++ ls) lines ∙ sym (snoc_lines s.marks m (lines_of others));
-            marks_counted = omega (arith, now.1, s.marks_counted, snoc_length s.marks m); fewer = omega (arith, now.1, s.fewer);
+            marks_counted = omega (arith, now.1, s.marks_counted, snoc_length s.marks m);
+            fewer = omega (arith, now.1, s.fewer);
             openings = λ n. opened_by (is_open_kind m.kind) (is_closed_kind m.kind) (m.kind == START) (m.kind == ENDED) m (said_in s.past) n c
                 ∙ ap (λ b. (is_open_kind m.kind && m.z == n) || b) (s.openings n) ∙ sym (snoc_opens n s.marks m);
           }

@@ -3,13 +3,14 @@ ghost use Rattle.ppp_mark.specs.Table.{is_kind, name_of, stands_in};
 ghost use Rattle.ppp_base.specs.declared.hook_target.HookTarget.TheVariants.{Link, Unit as OfUnit};
 ghost use Rattle.ppp_report.specs.Report.{target_of};
 
-use ppp_mark::{LogName, kind};
 use ppp_mark::name::name;
+use ppp_mark::{LogName, kind};
 
 // A kind at the place that is computed of its name's length and three of its octets.
 const KINDS: [u8; 64] = [
-    3, 0, 0, 10, 0, 0, 5, 0, 0, 0, 19, 0, 9, 0, 0, 39, 18, 0, 0, 0, 4, 35, 34, 0, 0, 16, 6, 0, 14, 0, 7, 32, 0, 37, 0, 0, 0, 0, 0,
-    8, 0, 38, 36, 17, 15, 0, 0, 2, 11, 0, 0, 0, 13, 33, 0, 12, 40, 0, 0, 0, 1, 0, 0, 0,
+    3, 0, 0, 10, 0, 0, 5, 0, 0, 0, 19, 0, 9, 0, 0, 39, 18, 0, 0, 0, 4, 35, 34, 0, 0, 16, 6, 0, 14,
+    0, 7, 32, 0, 37, 0, 0, 0, 0, 0, 8, 0, 38, 36, 17, 15, 0, 0, 2, 11, 0, 0, 0, 13, 33, 0, 12, 40,
+    0, 0, 0, 1, 0, 0, 0,
 ];
 
 // The only kind that may have this name.
@@ -20,7 +21,10 @@ fn guess(name: &[u8]) -> u8
     if length < 2 || 11 < length {
         return 0;
     }
-    let place = usize::from(name[0]) * 50 + usize::from(name[1]) * 9 + usize::from(name[length - 2]) * 25 + length * 10;
+    let place = usize::from(name[0]) * 50
+        + usize::from(name[1]) * 9
+        + usize::from(name[length - 2]) * 25
+        + length * 10;
     KINDS[place % 64]
 }
 

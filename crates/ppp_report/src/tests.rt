@@ -10,7 +10,10 @@ fn reports(rt: HostRuntime) -> Result<(), Fail> {
         ("link 1\nstatus 5\nend", 0),
         ("end\n", 0),
         ("end", 0),
-        ("link 1\n0 auth-open 0 0 1\n0 start 1 0 1\n0 start 1 0 1\n", 4),
+        (
+            "link 1\n0 auth-open 0 0 1\n0 start 1 0 1\n0 start 1 0 1\n",
+            4,
+        ),
         ("unit 0\nend\n", 2),
         ("", 1),
         ("\n", 1),
@@ -27,12 +30,27 @@ fn reports(rt: HostRuntime) -> Result<(), Fail> {
         ("unit 0\n0 ip-open 0 0 1", 2),
         ("unit 0\n0 ip-open 0 0 1\n0 start 3 0 1\nend\n", 3),
         ("unit 0\n0 ip-open 0 0 1\n00 start 1 0 1\nend\n", 2),
-        ("unit 0\n0 ip-open 0 0 1\n0 start 1 0 1\n0 ip-open 0 0 2\n0 ended 0 0 1\nend\n", 5),
-        ("unit 0\n0 ip-open 0 0 1\n0 ip-open 0 0 2\n0 start 1 0 1\n0 ended 0 0 1\n0 ip-closed 0 0 1\n0 start 2 0 1\nend\n", 0),
-        ("unit 0\n0 ip-open 0 0 1\n0 ip-open 0 0 2\n0 start 1 0 3\nend\n", 4),
-        ("unit 0\n0 ip-open 0 0 1\n0 ip-open 0 0 2\n0 start 1 0 2\n0 ended 2 0 1\nend\n", 0),
+        (
+            "unit 0\n0 ip-open 0 0 1\n0 start 1 0 1\n0 ip-open 0 0 2\n0 ended 0 0 1\nend\n",
+            5,
+        ),
+        (
+            "unit 0\n0 ip-open 0 0 1\n0 ip-open 0 0 2\n0 start 1 0 1\n0 ended 0 0 1\n0 ip-closed 0 0 1\n0 start 2 0 1\nend\n",
+            0,
+        ),
+        (
+            "unit 0\n0 ip-open 0 0 1\n0 ip-open 0 0 2\n0 start 1 0 3\nend\n",
+            4,
+        ),
+        (
+            "unit 0\n0 ip-open 0 0 1\n0 ip-open 0 0 2\n0 start 1 0 2\n0 ended 2 0 1\nend\n",
+            0,
+        ),
         ("unit 3\n0 made 1 0 1\nunit 2\n0 made 1 0 1\nend\n", 3),
-        ("unit 3\n0 made 1 0 1\nunit 4\n5 made 255 65535 4294967295\nend\n", 0),
+        (
+            "unit 3\n0 made 1 0 1\nunit 4\n5 made 255 65535 4294967295\nend\n",
+            0,
+        ),
         ("unit 3\n18446744073709551616 made 1 0 1\nend\n", 2),
         ("unit 3\n18446744073709551615 made 1 0 1\nend\n", 0),
     ];

@@ -1,4 +1,4 @@
-use Rattle.std.proofs.Common.{rules, ◌≡◌, ◌<◌, ◌∷◌, length, true, false, sym, ap, subst, arith, ◌∙◌}
+use Rattle.std.proofs.Common.{rules, ◌≡◌, ◌∷◌, length, true, false, ap, subst, arith, ◌∙◌}
 use Rattle.ppp_mark.specs.declared.report.LogName.TheVariants.{Link}
 use Rattle.ppp_mark.specs.Lines.{lines_of}
 use Rattle.ppp_report.specs.Places.{In, IsSettledAs}

@@ -1,4 +1,4 @@
-use Rattle.std.proofs.Common.{rules, ◌≡◌, ◌<◌, length, true, false, sym, subst, arith, ◌∙◌}
+use Rattle.std.proofs.Common.{rules, ◌≡◌, ◌<◌, true, false, sym, subst, arith, ◌∙◌}
 use Rattle.ppp_mark.specs.Lines.{lines_of}
 use Rattle.ppp_report.specs.Places.{IsSettledAs}
 use Rattle.ppp_report.proofs.PlaceLemmas.{unit_empty, unit_some, unit_unsettled}

@@ -1,4 +1,4 @@
-use Rattle.std.proofs.Common.{rules, ◌≡◌, ◌∷◌, [], length, sym, subst, arith, ◌∙◌, ap}
+use Rattle.std.proofs.Common.{rules, ◌≡◌, ◌∷◌, length, subst, arith, ◌∙◌, ap}
 use Rattle.ppp_mark.specs.Lines.{lines_of}
 use Rattle.ppp_report.specs.Places.{At}
 use Rattle.ppp_report.specs.Report.{end_word}

@@ -1,11 +1,8 @@
-use Rattle.std.proofs.Common.{◌≡◌, ◌+◌, ◌∷◌, [], ap, sym, subst, length}
-use Rattle.ppp_mark.specs.declared.report.LogName.{LogName}
+use Rattle.std.proofs.Common.{◌+◌, ◌∷◌, [], sym, subst}
 use Rattle.ppp_mark.specs.Lines.{lines_of}
 use Rattle.ppp_report.specs.BadLine.{IsFirstBad}
-use Rattle.ppp_report.specs.Places.{At, In, Line}
+use Rattle.ppp_report.specs.Places.{At, In}
 use Rattle.ppp_report.specs.Reads.{HowEnd}
-use Rattle.ppp_report.specs.Report.{heading}
-use Rattle.ppp_report.specs.declared.section.MarksEnd.{MarksEnd}
 use Rattle.ppp_report.proofs.PlaceLemmas.{marks_broken, marks_in, no_heading, start}
 use Rattle.ppp_report.proofs.check.section.Goals as goal
 
@@ -39,7 +36,7 @@ returns-in-Unsettled-clause-place c = λ lines other a.
     let headed = subst (λ l. At lines links least (l ∷ lines_of c.args.behind.now) c.args.line) sound.1 a in
     let begun = start lines links least name (lines_of c.args.behind.now) c.args.line headed sound.0 in
     let now = marks_in lines links least name read.past (lines_of rest) (c.args.line + 1) read.fit how.0
-        (subst (λ ls. In lines links least name [] ls (c.args.line + 1)) read.lines begun) in
+    (subst (λ ls. In lines links least name [] ls (c.args.line + 1)) read.lines begun) in
     c.after_marks.ensures.place lines read.past (subst (λ n. In lines links least name read.past (lines_of rest) (c.args.line + 1 + n)) (sym read.counted) now)
     read.counted how.1 how.2
 
@@ -55,6 +52,6 @@ returns-in-Settled-clause-place c = λ lines other a.
     let headed = subst (λ l. At lines links least (l ∷ lines_of c.args.behind.now) c.args.line) sound.1 a in
     let begun = start lines links least name (lines_of c.args.behind.now) c.args.line headed sound.0 in
     let now = marks_in lines links least name read.past (lines_of rest) (c.args.line + 1) read.fit how.0
-        (subst (λ ls. In lines links least name [] ls (c.args.line + 1)) read.lines begun) in
+    (subst (λ ls. In lines links least name [] ls (c.args.line + 1)) read.lines begun) in
     c.after_marks-in-Settled.ensures.place lines read.past (subst (λ n. In lines links least name read.past (lines_of rest) (c.args.line + 1 + n)) (sym read.counted) now)
     read.counted how.1 how.2

@@ -1,4 +1,4 @@
-use Rattle.std.proofs.Common.{◌≡◌, ◌≢◌, ◌<◌, ◌≤◌, ◌+◌, ℕ, true, List, ◌∷◌, ◌++◌, length, get_or, take, drop, ap, sym, subst, ◌∙◌, arith, length-append}
+use Rattle.std.proofs.Common.{◌≡◌, ◌≢◌, ◌<◌, ◌≤◌, ◌+◌, ℕ, true, List, ◌∷◌, ◌++◌, length, get_or, take, drop, ap, subst, ◌∙◌, arith, length-append}
 use Rattle.std.proofs.Math.Seq.{drop-append-add, take-append_seam}
 use Rattle.ppp_mark.specs.Table.{is_kind, name_of}
 use Rattle.ppp_mark.proofs.LinesLemmas.{place_is, rest_is}
@@ -37,8 +37,7 @@ returns-in_default-clause-found c = λ k rest stands is.
 pub returns-clause-found : goal.returns-clause-found
 returns-clause-found c = λ k rest stands is.
     let p = c.place-end in
-    let end = name_end c.args.text.now rest k p.result (stands_is_kind (target_of c.args.of.now) k stands) is p.ensures.within p.ensures.none p.ensures.found in
-    (
+    let end = name_end c.args.text.now rest k p.result (stands_is_kind (target_of c.args.of.now) k stands) is p.ensures.within p.ensures.none p.ensures.found in (
       c.in-Some.ensures.found k stands (front c.args.text.now rest k p.result is end),
       rest_is (p.result + 1) c.args.text.now ∙ behind c.args.text.now rest k p.result is end,
     )

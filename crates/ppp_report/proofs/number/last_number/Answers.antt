@@ -1,4 +1,4 @@
-use Rattle.std.proofs.Common.{◌≡◌, ℕ, List, refl, sym, subst, inl, inr, ◌∷◌, []}
+use Rattle.std.proofs.Common.{ℕ, List, refl, sym, subst, inl, inr}
 use Rattle.ppp_report.specs.Text.{After, HasNoDigit}
 use Rattle.ppp_report.proofs.number.last_number.Goals as goal
 

@@ -1,4 +1,4 @@
-use Rattle.std.proofs.Common.{◌≡◌, ◌∙◌, ◌^◌, ◌<◌, Some, None, ap, sym, take, decimal, arith, ◌++◌, drop}
+use Rattle.std.proofs.Common.{◌∙◌, None, ap, sym, take, decimal, arith, ◌++◌, drop}
 use Rattle.std.proofs.lemmas.Option.{none-some, same_Some}
 use Rattle.std.proofs.lemmas.List.{take-append-drop}
 use Rattle.ppp_mark.proofs.LinesLemmas.{rest_is}
@@ -20,8 +20,7 @@ returns-clause-sound c =
 pub returns-clause-found : goal.returns-clause-found
 returns-clause-found c = λ n rest low other is.
     let end = c.digits-end in
-    let parts = number_parts c.args.text.now rest n end.result (omega (arith, low, c.ranges.most.fits)) other is end.ensures.within end.ensures.digits end.ensures.end in
-    (
+    let parts = number_parts c.args.text.now rest n end.result (omega (arith, low, c.ranges.most.fits)) other is end.ensures.within end.ensures.digits end.ensures.end in (
       same_Some _ _ (is_read (take end.result c.args.text.now) n c.args.most _ c.in-Some.ensures.value parts.0 low c.ranges.most.fits),
       rest_is end.result c.args.text.now ∙ parts.1,
     )

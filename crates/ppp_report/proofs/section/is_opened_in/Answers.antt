@@ -1,4 +1,4 @@
-use Rattle.std.proofs.Common.{◌≡◌, ◌∷◌, ◌++◌, [], map, sym, ap, ◌∙◌, subst, arith, true, false}
+use Rattle.std.proofs.Common.{◌≡◌, ◌∷◌, ◌++◌, [], map, sym, ap, ◌∙◌, arith, true, false}
 use Rattle.ppp_report.specs.Reads.{opens_in}
 use Rattle.ppp_report.specs.Report.{mark_word}
 use Rattle.ppp_report.proofs.SectionLemmas.{first_of, opens_first, opens_rest}

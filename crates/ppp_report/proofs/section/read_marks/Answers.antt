@@ -1,4 +1,4 @@
-use Rattle.std.proofs.Common.{◌≡◌, ◌∷◌, [], ℕ, refl, ap, ◌∙◌, arith, length}
+use Rattle.std.proofs.Common.{◌∷◌, [], refl, ap, ◌∙◌, arith}
 use Rattle.ppp_mark.specs.Lines.{lines_of}
 use Rattle.ppp_mark.specs.Scripts.{said_in}
 use Rattle.ppp_mark.proofs.LawLemmas.{one_more_mark}
@@ -8,8 +8,19 @@ use Rattle.ppp_report.proofs.section.read_marks.Goals as goal
 
 pub reading-init : goal.reading-init
 reading-init c = record {
-  past = []; fit = tt; lines = refl; counted = refl; law = nothing_yet; tells = c.none-scripts.ensures; within = omega arith;
-  marks = []; marks_fit = tt; marks_lines = refl; marks_counted = refl; fewer = omega arith; openings = λ n. refl;
+  past = [];
+  fit = tt;
+  lines = refl;
+  counted = refl;
+  law = nothing_yet;
+  tells = c.none-scripts.ensures;
+  within = omega arith;
+  marks = [];
+  marks_fit = tt;
+  marks_lines = refl;
+  marks_counted = refl;
+  fewer = omega arith;
+  openings = λ n. refl;
 }
 
 pub returns-in_default-with : goal.returns-in_default-with

@@ -1,4 +1,3 @@
-use Rattle.std.proofs.Common.{◌≡◌, inl, inr}
 use Rattle.ppp_mark.specs.Scripts.{answer_of, said_in}
 use Rattle.ppp_report.proofs.ScriptLemmas.{closed, ended}
 use Rattle.ppp_report.proofs.scripts.Scripts.with.Goals as goal

@@ -1,6 +1,5 @@
-use Rattle.std.proofs.Common.{◌≡◌, ap, ◌∙◌, sym, refl}
+use Rattle.std.proofs.Common.{ap, ◌∙◌, sym, refl}
 use Rattle.std.specs.Prelude.{is_some}
-use Rattle.ppp_hooks.specs.HookPast.{open_in}
 use Rattle.ppp_report.proofs.ScriptLemmas.{one_open}
 use Rattle.ppp_report.proofs.scripts.Scripts.with_open.Goals as goal
 
