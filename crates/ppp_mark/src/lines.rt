@@ -1,5 +1,5 @@
 ghost use Rattle.std.specs.Prelude.{◌≡◌, ◌≢◌, ℕ, ◌<◌, ◌≤◌, ◌∷◌, length, get_or};
-ghost use Rattle.ppp_trace.specs.Lines.{lines_of};
+ghost use Rattle.ppp_mark.specs.Lines.{lines_of};
 
 /// Where this octet stands first, or the end of the text.
 pub fn place(text: &[u8], octet: u8) -> usize

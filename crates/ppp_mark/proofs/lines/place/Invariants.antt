@@ -1,5 +1,5 @@
 use Rattle.std.proofs.Common.{◌≡◌, ℕ, ◌<◌, get_or}
-use Rattle.ppp_trace.proofs.lines.place.Given as goal
+use Rattle.ppp_mark.proofs.lines.place.Given as goal
 
 -- The octet isn't at any place that was looked at.
 abbrev pub invariant-loop-i : goal.invariant-loop-i

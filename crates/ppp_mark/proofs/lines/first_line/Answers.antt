@@ -1,8 +1,8 @@
 use Rattle.std.proofs.Common.{◌≡◌, ◌<◌, ◌+◌, ◌-◌, length, drop, sym, arith, add-one}
 use Rattle.std.proofs.Math.Seq.{take-length}
 use Rattle.std.proofs.lemmas.List.{length-drop}
-use Rattle.ppp_trace.proofs.LinesLemmas.{line_ends, line_is_all}
-use Rattle.ppp_trace.proofs.lines.first_line.Goals as goal
+use Rattle.ppp_mark.proofs.LinesLemmas.{line_ends, line_is_all}
+use Rattle.ppp_mark.proofs.lines.first_line.Goals as goal
 
 pub returns-then-end-text-clause-lines : goal.returns-then-end-text-clause-lines
 returns-then-end-text-clause-lines c =
