@@ -1,0 +1,13 @@
+//! The outside for real: the traits of `ppp_outside` over the operating system.
+//!
+//! Each object keeps its counts and tells nothing of content: what stands in a file or goes over a line is the
+//! world's. Want of memory inside a call that has no answer for it is a fault.
+#![tactic(auto)]
+
+mod clock;
+mod files;
+#[cfg(test)]
+mod tests;
+
+pub use clock::RealClock;
+pub use files::RealFiles;
