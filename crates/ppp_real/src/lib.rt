@@ -5,9 +5,19 @@
 #![tactic(auto)]
 
 mod clock;
+mod dialer;
 mod files;
+mod line_counts;
+mod line_in;
+mod line_out;
+#[cfg(test)]
+mod line_tests;
+mod socket;
 #[cfg(test)]
 mod tests;
 
 pub use clock::RealClock;
+pub use dialer::RealDialer;
 pub use files::RealFiles;
+pub use line_in::RealLineIn;
+pub use line_out::RealLineOut;
