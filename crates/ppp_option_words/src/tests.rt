@@ -52,10 +52,8 @@ fn what_a_word_and_its_value_say(rt: HostRuntime) -> Result<(), Fail> {
     let mru = number_item(alloc, Number::Mru, b"0000001400").ok();
     assert_eq!(rt; mru.ok_or("a number")?.number(Number::Mru), Some(1400));
     let name = text_item(alloc, Text::Name, b"srv").ok().ok_or("a text")?;
-    assert_eq!(rt;
-        name.text(Text::Name).map(|name| name.as_slice()),
-        Some(b"srv".as_slice())
-    );
+    let text = name.text(Text::Name).ok_or("its text")?;
+    assert_eq!(rt; text.as_slice(), b"srv".as_slice());
     let map = asyncmap_item(alloc, b"A0000").ok().ok_or("a map")?;
     assert_eq!(rt; map.asyncmap(), 655360);
     let both = other_item(alloc, b"10.0.0.1:10.0.0.2").ok();

@@ -4,7 +4,7 @@ use ppp_memory::{MemoryFiles, StoredFile};
 use std::alloc::Global;
 use std::test::Fail;
 
-fn words(alloc: Global, texts: &[&str]) -> Result<Vec<String>, NoMemory> {
+fn words(alloc: Global, texts: &'static [&'static str]) -> Result<Vec<String>, NoMemory> {
     let mut words = Vec::new(alloc);
     for text in texts {
         words.push(String::from_str(alloc, text)?)?;
@@ -13,7 +13,10 @@ fn words(alloc: Global, texts: &[&str]) -> Result<Vec<String>, NoMemory> {
 }
 
 // Files of these names and texts.
-fn files(alloc: Global, texts: &[(&str, &str)]) -> Result<MemoryFiles, NoMemory> {
+fn files(
+    alloc: Global,
+    texts: &'static [(&'static str, &'static str)],
+) -> Result<MemoryFiles, NoMemory> {
     let mut files = Vec::new(alloc);
     for (name, text) in texts {
         files.push(StoredFile::new(
@@ -128,7 +131,7 @@ const ROWS: [Row; 41] = [
 fn what_words_are(rt: HostRuntime) -> Result<(), Fail> {
     for (texts, kind, word) in ROWS {
         let words = words(rt.alloc(), texts)?;
-        let mut files = files(rt.alloc(), FILES.as_slice())?;
+        let mut files = files(rt.alloc(), &FILES)?;
         let read = read_options(rt.alloc(), words.as_slice(), &mut files);
         assert_eq!(rt; told(&read), (kind, word));
     }
@@ -218,7 +221,7 @@ fn a_file_that_cannot_be_read(rt: HostRuntime) -> Result<(), Fail> {
 fn a_link_with_each_value_of_its_file(rt: HostRuntime) -> Result<(), Fail> {
     let alloc = rt.alloc();
     let words = words(alloc, &["file", "bras"])?;
-    let mut files = files(alloc, FILES.as_slice())?;
+    let mut files = files(alloc, &FILES)?;
     let config = read_options(alloc, words.as_slice(), &mut files)
         .ok()
         .ok_or("a fault")?;

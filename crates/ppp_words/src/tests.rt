@@ -151,22 +151,61 @@ fn open_quotes(rt: HostRuntime) {
     }
 }
 
+/// Texts of the options form, what stands in front of the word with an open quote, and the quote's line.
+const FRONTS: [(Case, Option<usize>); 6] = [
+    (
+        Case {
+            text: b"",
+            words: &[],
+        },
+        None,
+    ),
+    (
+        Case {
+            text: b"frob 'open",
+            words: &[(b"frob", 1)],
+        },
+        Some(1),
+    ),
+    (
+        Case {
+            text: b"a\nb'c\nd",
+            words: &[(b"a", 1)],
+        },
+        Some(2),
+    ),
+    (
+        Case {
+            text: b"'a\nb'\"c",
+            words: &[],
+        },
+        Some(2),
+    ),
+    (
+        Case {
+            text: b"a ' b",
+            words: &[(b"a", 1)],
+        },
+        Some(1),
+    ),
+    (
+        Case {
+            text: b"a 'b'\nc",
+            words: &[(b"a", 1), (b"b", 1), (b"c", 2)],
+        },
+        None,
+    ),
+];
+
 #[test]
 fn words_before_an_open_quote(rt: HostRuntime) -> Result<(), Fail> {
-    let texts: [(&[u8], &[&[u8]], Option<usize>); 6] = [
-        (b"", &[], None),
-        (b"frob 'open", &[b"frob"], Some(1)),
-        (b"a\nb'c\nd", &[b"a"], Some(2)),
-        (b"'a\nb'\"c", &[], Some(2)),
-        (b"a ' b", &[b"a"], Some(1)),
-        (b"a 'b' c", &[b"a", b"b", b"c"], None),
-    ];
-    for (text, wanted, open_quote) in texts {
-        let front = words_in_front(rt.alloc(), text, Backslash::Dropped)?;
-        assert_eq!(rt; front.open_quote, open_quote);
-        assert_eq!(rt; front.words.len(), wanted.len());
-        for (word, octets) in front.words.iter().zip(wanted) {
-            assert_eq!(rt; word.octets(), *octets);
+    for (case, open_quote) in &FRONTS {
+        let front = words_in_front(rt.alloc(), case.text, Backslash::Dropped)?;
+        assert_eq!(rt; front.open_quote, *open_quote);
+        assert_eq!(rt; front.words.len(), case.words.len());
+        for (word, wanted) in front.words.iter().zip(case.words) {
+            assert_eq!(rt; word.octets(), wanted.0);
+            assert_eq!(rt; word.line(), wanted.1);
         }
     }
     Ok(())
