@@ -1,7 +1,9 @@
 use crate::run::replay_run;
+use crate::status_of;
 use ppp_base::NoMemory;
 use ppp_outside::{MemorySink, MemorySource};
 use std::alloc::Global;
+use std::io;
 use std::test::Fail;
 
 // The status and the output for these words and an input that comes in pieces, where these calls of the source and the
@@ -157,4 +159,10 @@ fn checks_reports(rt: HostRuntime) -> Result<(), Fail> {
         assert_eq!(rt; written.as_slice(), output.as_bytes(), "at {input:?}");
     }
     Ok(())
+}
+
+#[test]
+fn words_that_are_not_text(rt: HostRuntime) {
+    assert_eq!(rt; status_of(&io::Error::from(io::ErrorKind::InvalidData)), 2);
+    assert_eq!(rt; status_of(&io::Error::from(io::ErrorKind::OutOfMemory)), 32);
 }

@@ -62,10 +62,10 @@ may_is_object links least (OfUnit unit) may = may.1
 
 -- ---- what may follow
 
-head_is : (a b : Line) (xs ys : List Line) → a ∷ xs ≡ b ∷ ys → a ≡ b
+pub head_is : (a b : Line) (xs ys : List Line) → a ∷ xs ≡ b ∷ ys → a ≡ b
 head_is a b xs ys e = cc e
 
-tail_is : (a b : Line) (xs ys : List Line) → a ∷ xs ≡ b ∷ ys → xs ≡ ys
+pub tail_is : (a b : Line) (xs ys : List Line) → a ∷ xs ≡ b ∷ ys → xs ≡ ys
 tail_is a b xs ys e = cc e
 
 next_heading_section : (links least : ℕ) (name : LogName) (tail : List Line) (s : Section) (ss : List Section) → IsObject name
@@ -111,7 +111,7 @@ some_behind [] y ys = omega arith
 some_behind (x ∷ xs) y ys = omega arith
 
 -- what follows the marks is none
-mark_not_next : (name : LogName) (m : Mark) (tail : List Line) (status : Option ℕ) (sections : List Section) → AreFit name (m ∷ [])
+pub mark_not_next : (name : LogName) (m : Mark) (tail : List Line) (status : Option ℕ) (sections : List Section) → AreFit name (m ∷ [])
     → mark_word m ∷ tail ≡ status_lines status ++ report_lines sections → ⊥
 mark_not_next name m tail None [] fit e = mark_end name m fit (sym (head_is _ _ _ _ e))
 mark_not_next name m tail None (s ∷ ss) fit e = mark_heading name s.name m fit (sym (head_is _ _ _ _ e))

@@ -5,3 +5,5 @@ pub mod ScriptLemmas
 pub mod SectionLemmas
 pub mod FrontLemmas
 pub mod PlaceLemmas
+pub mod LawfulLemmas
+pub mod AgainLemmas

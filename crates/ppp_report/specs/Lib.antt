@@ -7,3 +7,4 @@ pub mod Text
 pub mod Tells
 pub mod Reads
 pub mod Places
+pub mod Lawful

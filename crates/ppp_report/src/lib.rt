@@ -7,6 +7,7 @@
 
 mod check;
 mod kinds;
+pub mod laws;
 mod mark_line;
 mod number;
 mod scripts;
