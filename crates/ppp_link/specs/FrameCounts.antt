@@ -1,10 +1,11 @@
 -- How many frames came, and how often the octets between two flags were none.
-use Rattle.std.specs.Prelude.{ℕ, ◌+◌, ◌-◌, ◌^◌, min, Bool, true, false, List}
+use Rattle.std.specs.Prelude.{ℕ, Bool, true, false, List}
 use Rattle.std.specs.List.{count_by}
 use Rattle.ppp_hdlc.specs.declared.fault.FrameFault.{FrameFault}
 use Rattle.ppp_hdlc.specs.declared.fault.FrameFault.TheVariants.{Aborted, TooLong, Short, BadFcs, BadHeader}
 use Rattle.ppp_hdlc.specs.declared.heard.Heard.{Heard}
 use Rattle.ppp_hdlc.specs.declared.heard.Heard.TheVariants.{Nothing, Frame, Dropped}
+use Rattle.ppp_outside.specs.Counts.{raised}
 use Rattle.ppp_link.specs.RingAfter.{one_more}
 use Rattle.ppp_link.specs.declared.counts.FrameCounts.{FrameCounts}
 
@@ -53,7 +54,7 @@ is_bad_header _ = false
 
 -- how often one of these is among what was heard, behind so many, as far as a count goes
 abbrev pub count_from : ℕ → (Heard → Bool) → List Heard → ℕ
-count_from before is_it heards = min (before + count_by is_it heards) (2 ^ 64 - 1)
+count_from before is_it heards = raised before (count_by is_it heards)
 
 -- The counts behind a session in which this was heard, from what they were before it.
 abbrev pub counts_from : FrameCounts → List Heard → FrameCounts

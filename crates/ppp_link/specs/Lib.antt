@@ -25,7 +25,10 @@ pub mod LinkEvent
 pub mod LinkPart
 pub mod History
 pub mod Kept
+pub mod Unchanged
+pub mod Facts
 pub mod NewLink
 pub mod Rows
 pub mod ErrandValues
 pub mod Reading
+pub mod WorkedHistory

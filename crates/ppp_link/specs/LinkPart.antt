@@ -16,6 +16,7 @@ use Rattle.ppp_link.specs.Errands.{is_dial_out, is_job_out, is_next, is_reading_
 use Rattle.ppp_link.specs.Hearing.{octets_taken}
 use Rattle.ppp_link.specs.LinkEvent.{Event, Begin, Dialled, Bytes, LineOver, Flushed, Tick, Signal, FromTable, HookOver}
 use Rattle.ppp_link.specs.LinkState.{LinkState, control, wants_line}
+use Rattle.ppp_link.specs.Marks.{is_new}
 use Rattle.ppp_link.specs.Posts.{names_present, post_taken, stay_of}
 use Rattle.ppp_link.specs.Sessions.{at_end, dial_answered, dial_come, line_lost}
 use Rattle.ppp_link.specs.Signals.{signal_taken}
@@ -39,7 +40,7 @@ is_present (Signal word) s = true
 is_present (FromTable post) s = names_present (stay_of post) (control s).stay
 is_present (HookOver target job not_started answer) s = is_job_out target job not_started s
 
--- The first Begin starts the dial; a second one does nothing.
+-- The first Begin starts the dial.
 abbrev pub begun : LinkState → LinkState
 begun s = dial_answered (dial_says Start s) s
 
@@ -74,9 +75,18 @@ happened (Signal word) s = signal_taken word s
 happened (FromTable post) s = post_taken post s
 happened (HookOver target job not_started answer) s = job_ended answer s
 
+-- A second Begin does nothing at all.
+abbrev pub is_nothing : Event → LinkState → Bool
+is_nothing Begin s = not (is_new (control s).doing)
+is_nothing _ s = false
+
+abbrev pub after_unless : Bool → Event → LinkState → LinkState
+after_unless true event s = s
+after_unless false event s = at_end (happened event s)
+
 -- what an event leaves that isn't stale
 unfoldable pub after : Event → LinkState → LinkState
-after event s = at_end (happened event s)
+after event s = after_unless (is_nothing event s) event s
 
 abbrev pub after_if : Bool → Event → LinkState → LinkState
 after_if true event s = after event s

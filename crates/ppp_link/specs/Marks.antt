@@ -48,6 +48,15 @@ is_session (Holds until) = false
 is_session Waits = false
 is_session (HasFinished status) = false
 
+abbrev pub is_new : Doing → Bool
+is_new New = true
+is_new Dials = false
+is_new HasLine = false
+is_new IsOver = false
+is_new (Holds until) = false
+is_new Waits = false
+is_new (HasFinished status) = false
+
 abbrev pub status_by : Doing → Option ℕ
 status_by New = None
 status_by Dials = None

@@ -1,5 +1,6 @@
 -- What a ring of bounded size takes and drops.
-use Rattle.std.specs.Prelude.{ℕ, ◌+◌, ◌-◌, ◌^◌, min, nat_le, Bool, true, false, if◌then◌else◌, List, [], ◌∷◌, ◌++◌, length}
+use Rattle.std.specs.Prelude.{ℕ, ◌+◌, nat_le, Bool, true, false, if◌then◌else◌, List, [], ◌∷◌, ◌++◌, length}
+use Rattle.ppp_outside.specs.Counts.{raised}
 use Rattle.ppp_link.specs.declared.limits.TheConstants.{OUT_RING, FRAME_ROOM, FRAME_HEAD}
 use Rattle.ppp_link.specs.UpValue.{UpValue, Asks, Hands, Leaves}
 
@@ -10,7 +11,7 @@ pub record Ring (A : Type 0) : Type 0 where
 
 -- one more, up to the last value of a count
 abbrev pub one_more : ℕ → ℕ
-one_more count = min (count + 1) (2 ^ 64 - 1)
+one_more count = raised count 1
 
 -- A thing is appended whole where it fits with what waits; else it is dropped and counted.
 abbrev pub RingAfter : {A : Type 0} → (List A → ℕ) → ℕ → List A → Ring A → Ring A

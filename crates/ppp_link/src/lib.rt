@@ -9,6 +9,7 @@ mod cause;
 mod counts;
 mod dial_job;
 mod errand;
+pub mod laws;
 pub mod limits;
 mod piece;
 mod reading;

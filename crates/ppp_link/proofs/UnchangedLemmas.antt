@@ -1,0 +1,382 @@
+-- Each rule leaves unchanged what it should.
+use Rattle.std.proofs.Common.{refl, sym, ◌∙◌, ap, ◌≡◌, ℕ, ◌+◌, Bool, true, false, Option, None, Some, List, [], ◌∷◌, ◌++◌, is_some, is_none}
+use Rattle.ppp_base.specs.declared.hook_target.HookTarget.TheVariants.{Link}
+use Rattle.ppp_base.specs.declared.posts.Post.{Post}
+use Rattle.ppp_base.specs.declared.posts.Post.TheVariants.{Member, Refused, Close, Send, Reject, Wake}
+use Rattle.ppp_base.specs.declared.signal_word.SignalWord.{SignalWord}
+use Rattle.ppp_base.specs.declared.signal_word.SignalWord.TheVariants.{Hup, Int, Term, Usr1, Usr2}
+use Rattle.ppp_packet.specs.declared.packet.Packet.{Packet}
+use Rattle.ppp_packet.specs.declared.agreed.Agreed.{Agreed}
+use Rattle.ppp_chat.specs.declared.event.Event.{Event as ChatEvent}
+use Rattle.ppp_chat.specs.declared.now.ChatNow.{ChatNow}
+use Rattle.ppp_chat.specs.declared.now.ChatNow.TheVariants.{Going as going, Sent as sends, Done as done, TimedOut as timed_out, Aborted as aborted}
+use Rattle.ppp_chat.specs.Script.{ChatScript}
+use Rattle.ppp_chat.specs.Event.{tick_at, octet_at}
+use Rattle.ppp_control.specs.Rules.{Call, by_itself, closes, comes_up, goes_down, opens, ticks, hears, rejects}
+use Rattle.ppp_dial.specs.declared.now.DialNow.{DialNow}
+use Rattle.ppp_dial.specs.declared.now.DialNow.TheVariants.{Nothing, Begin, Hold, Wait, Finish}
+use Rattle.ppp_hdlc.specs.declared.heard.Heard.{Heard}
+use Rattle.ppp_hdlc.specs.declared.heard.Heard.TheVariants as heard
+use Rattle.ppp_hooks.specs.HookMark.{HookMark, Opened, Closed, Started, Ended}
+use Rattle.ppp_lcp.specs.declared.out.LcpOut.{LcpOut}
+use Rattle.ppp_auth.specs.declared.out.PhaseOut.{PhaseOut}
+use Rattle.ppp_auth.specs.declared.out.PhasePacket.{PhasePacket}
+use Rattle.ppp_auth.specs.declared.outcome.AuthNow.{AuthNow}
+use Rattle.ppp_auth.specs.declared.outcome.AuthNow.TheVariants.{Going, Passed, PeerFailed, WeFailed}
+use Rattle.ppp_auth.specs.Setting.{PhaseAt, PhaseCall, starts, takes, waits}
+use Rattle.ppp_mark.specs.declared.mark.Mark.{Mark}
+use Rattle.ppp_mark.specs.Log.{LogState}
+use Rattle.ppp_mark.specs.ScriptLog.{log_closed_at, log_ended, log_opened}
+use Rattle.ppp_mark.specs.Scripts.{due_marks, marks_at}
+use Rattle.ppp_outside.specs.declared.spawner.ScriptEnd.{ScriptEnd}
+use Rattle.ppp_timer.specs.declared.slot.Slot.{Slot}
+use Rattle.ppp_timer.specs.declared.slot.Slot.TheVariants as slot
+use Rattle.ppp_link.specs.declared.cause.Cause.{Cause}
+use Rattle.ppp_link.specs.Authentication.{answering, asked_by, asked_if, auth_opened, called_part as phase_part, ended_by_outcome, join_tried, new_phase, opened_for, phase_begun, phase_begun_by, phase_called, phase_heard, phase_told, with_phase}
+use Rattle.ppp_link.specs.Dialling.{dial_says}
+use Rattle.ppp_link.specs.Ending.{auth_closed, caused, closed_if, closed_part, closing, ended_by, ended_if, first_caused_by, lcp_closed, lcp_left, left_by, left_if, stay_left, with_call}
+use Rattle.ppp_link.specs.Hearing.{chat_called, chat_told, chat_ticked_by, checked, ended_if_many, frame_taken, heard_taken, link_opened, looked_after, octet_taken, octet_to, octets_taken, talk_begun_by, treated, with_fed}
+use Rattle.ppp_link.specs.Kept.{signals_in}
+use Rattle.ppp_link.specs.LcpCalls.{answered, called_part, followed_by, lcp_called, lcp_entered, lcp_heard, protocol_rejected, with_answer}
+use Rattle.ppp_link.specs.LinkState.{LinkState, AuthPart, LcpPart, Listener, Nobody, Chatting, Framing}
+use Rattle.ppp_link.specs.Phase.{Treatment, ToLcp, ToAuth, ToTable, ToReject, Discarded}
+use Rattle.ppp_link.specs.Posts.{live_if, member_if, post_taken, rejected_in, sent_in}
+use Rattle.ppp_link.specs.Sending.{frame_sent, octets_sent, packets_sent, phase_sent}
+use Rattle.ppp_link.specs.Sessions.{attempted, dial_answered, dial_come, dial_told_over, line_come, line_come_if, line_gone, line_gone_if, line_lost, over_if, over_marked, session_over}
+use Rattle.ppp_link.specs.Ticking.{slots_treated, treated as slot_treated, treated_if}
+use Rattle.ppp_link.specs.Unchanged.{Unchanged}
+
+pub unchanged : (s : LinkState) → Unchanged s s
+unchanged s = record { id = refl; config = refl; wish = refl; secrets = refl; time = refl; limit = refl; signals = refl }
+
+pub then : {a b c : LinkState} → Unchanged a b → Unchanged b c → Unchanged a c
+then ab bc = record {
+  id = bc.id ∙ ab.id;
+  config = bc.config ∙ ab.config;
+  wish = bc.wish ∙ ab.wish;
+  secrets = bc.secrets ∙ ab.secrets;
+  time = bc.time ∙ ab.time;
+  limit = bc.limit ∙ ab.limit;
+  signals = bc.signals ∙ ab.signals;
+}
+
+-- MARKS OF SCRIPTS
+
+pub no-signal : (time : ℕ) (hooks : List HookMark) (past : List Mark) → signals_in (marks_at time hooks ++ past) ≡ signals_in past
+no-signal time [] past = refl
+no-signal time (Opened n ∷ hooks) past = no-signal time hooks past
+no-signal time (Closed n ∷ hooks) past = no-signal time hooks past
+no-signal time (Started true n ∷ hooks) past = no-signal time hooks past
+no-signal time (Started false n ∷ hooks) past = no-signal time hooks past
+no-signal time (Ended answer job ∷ hooks) past = no-signal time hooks past
+
+pub closed-signals : (id time : ℕ) (o : Option ℕ) (log : LogState) → signals_in (log_closed_at (Link id) time o log).past ≡ signals_in log.past
+closed-signals id time None log = refl
+closed-signals id time (Some n) log = no-signal time _ _
+
+pub closed-limit : (id time : ℕ) (o : Option ℕ) (log : LogState) → (log_closed_at (Link id) time o log).limit ≡ log.limit
+closed-limit id time None log = refl
+closed-limit id time (Some n) log = refl
+
+-- SENDING
+
+pub frame-sent : (protocol : ℕ) (information : List ℕ) (s : LinkState) → Unchanged s (frame_sent protocol information s)
+unfolding frame_sent
+frame-sent protocol information s = record { id = refl; config = refl; wish = refl; secrets = refl; time = refl; limit = refl; signals = refl }
+
+pub packets-sent : (packets : List Packet) (s : LinkState) → Unchanged s (packets_sent packets s)
+packets-sent [] s = unchanged s
+packets-sent (p ∷ packets) s = then (frame-sent _ _ s) (packets-sent packets _)
+
+pub phase-sent : (packets : List PhasePacket) (s : LinkState) → Unchanged s (phase_sent packets s)
+phase-sent [] s = unchanged s
+phase-sent (p ∷ packets) s = then (frame-sent _ _ s) (phase-sent packets _)
+
+-- ENDING
+
+pub is-caused : (c : Cause) (s : LinkState) → Unchanged s (caused c s)
+unfolding caused
+is-caused c s = record { id = refl; config = refl; wish = refl; secrets = refl; time = refl; limit = refl; signals = refl }
+
+pub first-caused : (c : Option Cause) (first : Bool) (s : LinkState) → Unchanged s (first_caused_by c first s)
+first-caused None first s = unchanged s
+first-caused (Some c) true s = is-caused c s
+first-caused (Some c) false s = unchanged s
+
+pub auth-closed : (s : LinkState) → Unchanged s (auth_closed s)
+auth-closed s = record { id = refl; config = refl; wish = refl; secrets = refl; time = refl; limit = closed-limit s.id s.time _ s.log; signals = closed-signals s.id s.time _ s.log }
+
+pub left-by : (stay : Option ℕ) (s : LinkState) → Unchanged s (left_by stay s)
+left-by None s = unchanged s
+left-by (Some stay) s = record { id = refl; config = refl; wish = refl; secrets = refl; time = refl; limit = refl; signals = refl }
+
+pub lcp-left : (s : LinkState) → Unchanged s (lcp_left s)
+unfolding lcp_left
+lcp-left s = then {b = record s { log = _; deframer = _ }} (record { id = refl; config = refl; wish = refl; secrets = refl; time = refl; limit = refl; signals = refl }) (then (auth-closed _) (left-by _ _))
+
+pub left-if : (b : Bool) (s : LinkState) → Unchanged s (left_if b s)
+left-if true s = lcp-left s
+left-if false s = unchanged s
+
+pub is-closing : (was_open : Bool) (out : LcpOut) (part : LcpPart) (s : LinkState) → Unchanged s (closing was_open out part s)
+is-closing was_open out part s = then (then {b = with_call (by_itself closes) s.time out part s} (record { id = refl; config = refl; wish = refl; secrets = refl; time = refl; limit = refl; signals = refl }) (packets-sent out.packets _)) (left-if was_open _)
+
+pub closed-part : (part : Option LcpPart) (s : LinkState) → Unchanged s (closed_part part s)
+closed-part None s = unchanged s
+closed-part (Some part) s = is-closing _ _ part s
+
+pub lcp-closed : (s : LinkState) → Unchanged s (lcp_closed s)
+unfolding lcp_closed
+lcp-closed s = closed-part s.lcp s
+
+pub closed-if : (b : Bool) (s : LinkState) → Unchanged s (closed_if b s)
+closed-if true s = lcp-closed s
+closed-if false s = unchanged s
+
+pub ended-if : (b : Bool) (c : Cause) (s : LinkState) → Unchanged s (ended_if b c s)
+ended-if true c s = then (is-caused c s) (lcp-closed _)
+ended-if false c s = unchanged s
+
+pub ended-by : (c : Cause) (s : LinkState) → Unchanged s (ended_by c s)
+unfolding ended_by
+ended-by c s = ended-if _ c s
+
+-- AUTHENTICATION
+
+pub auth-opened : (peer : List ℕ) (s : LinkState) → Unchanged s (auth_opened peer s)
+auth-opened peer s = record { id = refl; config = refl; wish = refl; secrets = refl; time = refl; limit = refl; signals = no-signal s.time _ _ }
+
+pub opened-for : (peer : Option (List ℕ)) (s : LinkState) → Unchanged s (opened_for peer s)
+opened-for None s = unchanged s
+opened-for (Some peer) s = auth-opened peer s
+
+pub ended-by-outcome : (now : AuthNow) (s : LinkState) → Unchanged s (ended_by_outcome now s)
+ended-by-outcome Going s = unchanged s
+ended-by-outcome (Passed peer allow) s = unchanged s
+ended-by-outcome PeerFailed s = ended-by _ s
+ended-by-outcome WeFailed s = ended-by _ s
+
+pub phase-told : (out : PhaseOut) (now : AuthNow) (s : LinkState) → Unchanged s (phase_told out now s)
+phase-told out now s = then (phase-sent out.packets s) (then (opened-for out.peer_passed _) (ended-by-outcome now _))
+
+pub phase-part : (call : PhaseCall) (part : Option AuthPart) (s : LinkState) → Unchanged s (phase_part call part s)
+phase-part call None s = unchanged s
+phase-part call (Some part) s = then {b = with_phase (record { now = s.time; call = call }) part s} (record { id = refl; config = refl; wish = refl; secrets = refl; time = refl; limit = refl; signals = refl }) (phase-told _ _ _)
+
+pub phase-called : (call : PhaseCall) (s : LinkState) → Unchanged s (phase_called call s)
+unfolding phase_called
+phase-called call s = phase-part call s.auth s
+
+pub phase-begun-by : (terms : Option Agreed) (s : LinkState) → Unchanged s (phase_begun_by terms s)
+phase-begun-by None s = unchanged s
+phase-begun-by (Some terms) s = then {b = new_phase terms s} (record { id = refl; config = refl; wish = refl; secrets = refl; time = refl; limit = refl; signals = refl }) (phase-called _ _)
+
+pub phase-begun : (s : LinkState) → Unchanged s (phase_begun s)
+unfolding phase_begun
+phase-begun s = phase-begun-by _ s
+
+pub phase-heard : (protocol : ℕ) (packet : Option Packet) (s : LinkState) → Unchanged s (phase_heard protocol packet s)
+phase-heard protocol None s = unchanged s
+phase-heard protocol (Some packet) s = phase-called _ s
+
+pub asked-by : (now : AuthNow) (terms : Option Agreed) (s : LinkState) → Unchanged s (asked_by now terms s)
+asked-by Going terms s = unchanged s
+asked-by (Passed peer allow) None s = unchanged s
+asked-by (Passed peer allow) (Some terms) s = record { id = refl; config = refl; wish = refl; secrets = refl; time = refl; limit = refl; signals = refl }
+asked-by PeerFailed terms s = unchanged s
+asked-by WeFailed terms s = unchanged s
+
+pub asked-if : (b : Bool) (s : LinkState) → Unchanged s (asked_if b s)
+asked-if true s = asked-by _ _ s
+asked-if false s = unchanged s
+
+pub join-tried : (s : LinkState) → Unchanged s (join_tried s)
+unfolding join_tried
+join-tried s = asked-if _ s
+
+-- LCP
+
+pub lcp-entered : (s : LinkState) → Unchanged s (lcp_entered s)
+unfolding lcp_entered
+lcp-entered s = then {b = record s { log = _; deframer = _ }} (record { id = refl; config = refl; wish = refl; secrets = refl; time = refl; limit = refl; signals = refl }) (phase-begun _)
+
+pub followed-by : (was is : Bool) (s : LinkState) → Unchanged s (followed_by was is s)
+followed-by false false s = unchanged s
+followed-by false true s = lcp-entered s
+followed-by true false s = lcp-left s
+followed-by true true s = unchanged s
+
+pub is-answered : (was_open : Bool) (c : Option Cause) (out : LcpOut) (s : LinkState) → Unchanged s (answered was_open c out s)
+unfolding answered
+is-answered was_open c out s = then (first-caused c _ s) (then (packets-sent out.packets _) (then (followed-by was_open _ _) (closed-if _ _)))
+
+pub lcp-part : (call : Call (Unit {0})) (now : ℕ) (part : Option LcpPart) (s : LinkState) → Unchanged s (called_part call now part s)
+lcp-part call now None s = unchanged s
+lcp-part call now (Some part) s = then {b = with_call call now _ part s} (record { id = refl; config = refl; wish = refl; secrets = refl; time = refl; limit = refl; signals = refl }) (is-answered _ _ _ _)
+
+pub lcp-called : (call : Call (Unit {0})) (s : LinkState) → Unchanged s (lcp_called call s)
+unfolding lcp_called
+lcp-called call s = lcp-part call s.time s.lcp s
+
+pub protocol-rejected : (protocol : ℕ) (information : List ℕ) (s : LinkState) → Unchanged s (protocol_rejected protocol information s)
+unfolding protocol_rejected
+protocol-rejected protocol information s = lcp-part _ 0 s.lcp s
+
+pub lcp-heard : (packet : Option Packet) (s : LinkState) → Unchanged s (lcp_heard packet s)
+lcp-heard None s = unchanged s
+lcp-heard (Some packet) s = lcp-called _ s
+
+-- HEARING
+
+pub is-treated : (t : Treatment) (protocol : ℕ) (information : List ℕ) (s : LinkState) → Unchanged s (treated t protocol information s)
+is-treated ToLcp protocol information s = lcp-heard _ s
+is-treated ToAuth protocol information s = phase-heard protocol _ s
+is-treated ToTable protocol information s = record { id = refl; config = refl; wish = refl; secrets = refl; time = refl; limit = refl; signals = refl }
+is-treated ToReject protocol information s = protocol-rejected protocol information s
+is-treated Discarded protocol information s = unchanged s
+
+pub frame-taken : (protocol : ℕ) (information : List ℕ) (s : LinkState) → Unchanged s (frame_taken protocol information s)
+unfolding frame_taken
+frame-taken protocol information s = is-treated _ protocol information s
+
+pub ended-if-many : (b : Bool) (s : LinkState) → Unchanged s (ended_if_many b s)
+ended-if-many true s = ended-by _ s
+ended-if-many false s = unchanged s
+
+pub looked-after : (s : LinkState) → Unchanged s (looked_after s)
+unfolding looked_after
+looked-after s = then (join-tried s) (ended-if-many _ _)
+
+pub heard-taken : (h : Heard) (s : LinkState) → Unchanged s (heard_taken h s)
+heard-taken heard.Nothing s = unchanged s
+heard-taken (heard.Frame protocol information) s = then (frame-taken protocol information s) (looked-after _)
+heard-taken (heard.Dropped fault) s = looked-after s
+
+pub link-opened : (s : LinkState) → Unchanged s (link_opened s)
+unfolding link_opened
+link-opened s = then {b = record s { listener = Framing }} (record { id = refl; config = refl; wish = refl; secrets = refl; time = refl; limit = refl; signals = refl }) (then (lcp-called _ _) (lcp-called _ _))
+
+pub chat-told : (now : ChatNow) (s : LinkState) → Unchanged s (chat_told now s)
+chat-told going s = unchanged s
+chat-told (sends octets) s = record { id = refl; config = refl; wish = refl; secrets = refl; time = refl; limit = refl; signals = refl }
+chat-told done s = link-opened s
+chat-told timed_out s = ended-by _ s
+chat-told (aborted number) s = ended-by _ s
+
+pub chat-called : (event : ChatEvent) (calls : List ChatEvent) (s : LinkState) → Unchanged s (chat_called event calls s)
+unfolding chat_called
+chat-called event calls s = then {b = record s { listener = Chatting (calls ++ event ∷ []) }} (record { id = refl; config = refl; wish = refl; secrets = refl; time = refl; limit = refl; signals = refl }) (chat-told _ _)
+
+pub talk-begun : (script : Option ChatScript) (s : LinkState) → Unchanged s (talk_begun_by script s)
+talk-begun None s = link-opened s
+talk-begun (Some script) s = chat-called _ _ s
+
+pub octet-to : (l : Listener) (octet : ℕ) (s : LinkState) → Unchanged s (octet_to l octet s)
+octet-to Nobody octet s = unchanged s
+octet-to (Chatting calls) octet s = chat-called _ calls s
+octet-to Framing octet s = then {b = with_fed octet s} (record { id = refl; config = refl; wish = refl; secrets = refl; time = refl; limit = refl; signals = refl }) (heard-taken _ _)
+
+pub octets-taken : (octets : List ℕ) (s : LinkState) → Unchanged s (octets_taken octets s)
+unfolding octet_taken
+octets-taken [] s = unchanged s
+octets-taken (octet ∷ octets) s = then (octet-to _ octet s) (octets-taken octets _)
+
+pub chat-ticked : (l : Listener) (s : LinkState) → Unchanged s (chat_ticked_by l s)
+chat-ticked Nobody s = unchanged s
+chat-ticked (Chatting calls) s = chat-called _ calls s
+chat-ticked Framing s = unchanged s
+
+-- SESSIONS
+
+pub is-attempted : (s : LinkState) → Unchanged s (attempted s)
+unfolding attempted
+is-attempted s = record { id = refl; config = refl; wish = refl; secrets = refl; time = refl; limit = refl; signals = refl }
+
+pub dial-answered : (now : DialNow) (s : LinkState) → Unchanged s (dial_answered now s)
+dial-answered Nothing s = unchanged s
+dial-answered Begin s = is-attempted s
+dial-answered (Hold milliseconds) s = record { id = refl; config = refl; wish = refl; secrets = refl; time = refl; limit = refl; signals = refl }
+dial-answered Wait s = record { id = refl; config = refl; wish = refl; secrets = refl; time = refl; limit = refl; signals = refl }
+dial-answered (Finish status) s = record { id = refl; config = refl; wish = refl; secrets = refl; time = refl; limit = refl; signals = refl }
+
+pub line-come : (s : LinkState) → Unchanged s (line_come s)
+unfolding line_come
+line-come s = then {b = record s { log = _; reading = _; writing = _; lcp = _; words = _ }} (record { id = refl; config = refl; wish = refl; secrets = refl; time = refl; limit = refl; signals = refl }) (talk-begun _ _)
+
+pub line-come-if : (b : Bool) (s : LinkState) → Unchanged s (line_come_if b s)
+line-come-if true s = line-come s
+line-come-if false s = unchanged s
+
+pub dial-come : (came : Bool) (s : LinkState) → Unchanged s (dial_come came s)
+dial-come true s = then {b = record s { dial = _ }} (record { id = refl; config = refl; wish = refl; secrets = refl; time = refl; limit = refl; signals = refl }) (line-come-if _ _)
+dial-come false s = then {b = record s { dial = _; failed_dials = _ }} (record { id = refl; config = refl; wish = refl; secrets = refl; time = refl; limit = refl; signals = refl }) (ended-by _ _)
+
+pub line-gone : (c : Cause) (s : LinkState) → Unchanged s (line_gone c s)
+line-gone c s = then {b = record s { line_ended = _; listener = _ }} (record { id = refl; config = refl; wish = refl; secrets = refl; time = refl; limit = refl; signals = refl })
+    (then (first-caused (Some c) _ _) (then (lcp-called _ _) (closed-if _ _)))
+
+pub line-gone-if : (b : Bool) (c : Cause) (s : LinkState) → Unchanged s (line_gone_if b c s)
+line-gone-if true c s = line-gone c s
+line-gone-if false c s = unchanged s
+
+pub line-lost : (c : Cause) (s : LinkState) → Unchanged s (line_lost c s)
+unfolding line_lost
+line-lost c s = line-gone-if _ c s
+
+pub is-over-marked : (s : LinkState) → Unchanged s (over_marked s)
+is-over-marked s = record { id = refl; config = refl; wish = refl; secrets = refl; time = refl; limit = refl; signals = refl }
+
+pub over-if : (b : Bool) (s : LinkState) → Unchanged s (over_if b s)
+over-if true s = then (is-over-marked s) (dial-answered _ _)
+over-if false s = unchanged s
+
+pub session-over : (s : LinkState) → Unchanged s (session_over s)
+unfolding session_over
+session-over s = over-if _ s
+
+-- SLOTS
+
+pub slot-treated : (which : Slot) (s : LinkState) → Unchanged s (slot_treated which s)
+slot-treated slot.LcpRestart s = lcp-called _ s
+slot-treated slot.AuthRestart s = phase-called _ s
+slot-treated slot.AuthEnd s = unchanged s
+slot-treated slot.Echo s = unchanged s
+slot-treated slot.Hold s = dial-answered _ s
+slot-treated slot.IpcpRestart s = unchanged s
+slot-treated slot.Idle s = unchanged s
+slot-treated slot.Connect s = unchanged s
+
+pub slot-treated-if : (b : Bool) (which : Slot) (s : LinkState) → Unchanged s (treated_if b which s)
+slot-treated-if true which s = slot-treated which s
+slot-treated-if false which s = unchanged s
+
+pub slots-treated : (slots : List Slot) (s : LinkState) → Unchanged s (slots_treated slots s)
+slots-treated [] s = unchanged s
+slots-treated (which ∷ slots) s = then (slot-treated-if _ which s) (slots-treated slots _)
+
+-- POSTS
+
+pub member-if : (b : Bool) (unit stay : ℕ) (s : LinkState) → Unchanged s (member_if b unit stay s)
+member-if true unit stay s = record { id = refl; config = refl; wish = refl; secrets = refl; time = refl; limit = refl; signals = refl }
+member-if false unit stay s = unchanged s
+
+pub live-if : (b : Bool) (unit stay : ℕ) (s : LinkState) → Unchanged s (live_if b unit stay s)
+live-if true unit stay s = record { id = refl; config = refl; wish = refl; secrets = refl; time = refl; limit = refl; signals = refl }
+live-if false unit stay s = unchanged s
+
+pub sent-in : (stay : Option ℕ) (protocol : ℕ) (information : List ℕ) (s : LinkState) → Unchanged s (sent_in stay protocol information s)
+sent-in None protocol information s = unchanged s
+sent-in (Some stay) protocol information s = frame-sent protocol information s
+
+pub rejected-in : (stay : Option ℕ) (protocol : ℕ) (information : List ℕ) (s : LinkState) → Unchanged s (rejected_in stay protocol information s)
+rejected-in None protocol information s = unchanged s
+rejected-in (Some stay) protocol information s = protocol-rejected protocol information s
+
+pub post-taken : (post : Post) (s : LinkState) → Unchanged s (post_taken post s)
+unfolding post_taken
+post-taken (Member stay unit live) s = then (member-if _ unit stay s) (live-if _ unit stay _)
+post-taken (Refused stay reason) s = then {b = record s { log = _ }} (record { id = refl; config = refl; wish = refl; secrets = refl; time = refl; limit = refl; signals = refl }) (ended-by _ _)
+post-taken (Close stay unit why elapsed live) s = then (then (member-if _ unit stay s) (live-if _ unit stay _)) (ended-by _ _)
+post-taken (Send protocol information) s = sent-in _ protocol information s
+post-taken (Reject protocol information) s = rejected-in _ protocol information s
+post-taken Wake s = dial-answered _ s
