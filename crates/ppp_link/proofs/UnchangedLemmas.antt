@@ -1,5 +1,5 @@
 -- Each rule leaves unchanged what it should.
-use Rattle.std.proofs.Common.{refl, sym, ◌∙◌, ap, ◌≡◌, ℕ, ◌+◌, Bool, true, false, Option, None, Some, List, [], ◌∷◌, ◌++◌, is_some, is_none}
+use Rattle.std.proofs.Common.{refl, sym, ◌∙◌, ap, ◌≡◌, ℕ, ◌+◌, Bool, true, false, Option, None, Some, List, [], ◌∷◌, ◌++◌, is_some, is_none, ◌&&◌, not}
 use Rattle.ppp_base.specs.declared.hook_target.HookTarget.TheVariants.{Link}
 use Rattle.ppp_base.specs.declared.posts.Post.{Post}
 use Rattle.ppp_base.specs.declared.posts.Post.TheVariants.{Member, Refused, Close, Send, Reject, Wake}
@@ -13,6 +13,14 @@ use Rattle.ppp_chat.specs.declared.now.ChatNow.TheVariants.{Going as going, Sent
 use Rattle.ppp_chat.specs.Script.{ChatScript}
 use Rattle.ppp_chat.specs.Event.{tick_at, octet_at}
 use Rattle.ppp_control.specs.Rules.{Call, by_itself, closes, comes_up, goes_down, opens, ticks, hears, rejects}
+use Rattle.ppp_auth.specs.Outcome.{outcome_in}
+use Rattle.ppp_auth.specs.Phase.{told_at}
+use Rattle.ppp_dial.specs.declared.call.CallKind.TheVariants as call
+use Rattle.ppp_dial.specs.declared.call.CallKind.TheVariants.{SessionOver}
+use Rattle.ppp_hdlc.specs.Deframing.{heard_at}
+use Rattle.ppp_link.specs.RingAfter.{has_control}
+use Rattle.ppp_packet.specs.PacketOf.{packet_in}
+use Rattle.ppp_timer.specs.Due.{moment_of}
 use Rattle.ppp_dial.specs.declared.now.DialNow.{DialNow}
 use Rattle.ppp_dial.specs.declared.now.DialNow.TheVariants.{Nothing, Begin, Hold, Wait, Finish}
 use Rattle.ppp_hdlc.specs.declared.heard.Heard.{Heard}
@@ -26,24 +34,28 @@ use Rattle.ppp_auth.specs.declared.outcome.AuthNow.TheVariants.{Going, Passed, P
 use Rattle.ppp_auth.specs.Setting.{PhaseAt, PhaseCall, starts, takes, waits}
 use Rattle.ppp_mark.specs.declared.mark.Mark.{Mark}
 use Rattle.ppp_mark.specs.Log.{LogState}
-use Rattle.ppp_mark.specs.ScriptLog.{log_closed_at, log_ended, log_opened}
-use Rattle.ppp_mark.specs.Scripts.{due_marks, marks_at}
+use Rattle.ppp_mark.specs.ScriptLog.{closed_mark, log_closed_at, next_opening, opened_mark}
+use Rattle.ppp_hooks.specs.HookRule.{due_after}
+use Rattle.ppp_mark.specs.Scripts.{due_marks, marks_at, said_in}
 use Rattle.ppp_outside.specs.declared.spawner.ScriptEnd.{ScriptEnd}
 use Rattle.ppp_timer.specs.declared.slot.Slot.{Slot}
 use Rattle.ppp_timer.specs.declared.slot.Slot.TheVariants as slot
 use Rattle.ppp_link.specs.declared.cause.Cause.{Cause}
 use Rattle.ppp_link.specs.Authentication.{answering, asked_by, asked_if, auth_opened, called_part as phase_part, ended_by_outcome, join_tried, new_phase, opened_for, phase_begun, phase_begun_by, phase_called, phase_heard, phase_told, with_phase}
-use Rattle.ppp_link.specs.Dialling.{dial_says}
-use Rattle.ppp_link.specs.Ending.{auth_closed, caused, closed_if, closed_part, closing, ended_by, ended_if, first_caused_by, lcp_closed, lcp_left, left_by, left_if, stay_left, with_call}
-use Rattle.ppp_link.specs.Hearing.{chat_called, chat_told, chat_ticked_by, checked, ended_if_many, frame_taken, heard_taken, link_opened, looked_after, octet_taken, octet_to, octets_taken, talk_begun_by, treated, with_fed}
+use Rattle.ppp_link.specs.Dialling.{dial_says, end_by}
+use Rattle.ppp_link.specs.Ending.{auth_closed, caused, first_caused, is_first, closed_marked, closed_if, closed_part, closing, ended_by, ended_if, first_caused_by, lcp_closed, lcp_left, left_by, left_if, stay_left, with_call}
+use Rattle.ppp_link.specs.Hearing.{chat_answer, has_many, chat_called, chat_told, chat_ticked_by, checked, ended_if_many, frame_taken, heard_taken, link_opened, looked_after, octet_taken, octet_to, octets_taken, talk_begun_by, treated, with_fed}
 use Rattle.ppp_link.specs.Kept.{signals_in}
-use Rattle.ppp_link.specs.LcpCalls.{answered, called_part, followed_by, lcp_called, lcp_entered, lcp_heard, protocol_rejected, with_answer}
-use Rattle.ppp_link.specs.LinkState.{LinkState, AuthPart, LcpPart, Listener, Nobody, Chatting, Framing}
-use Rattle.ppp_link.specs.Phase.{Treatment, ToLcp, ToAuth, ToTable, ToReject, Discarded}
-use Rattle.ppp_link.specs.Posts.{live_if, member_if, post_taken, rejected_in, sent_in}
+use Rattle.ppp_link.specs.LcpAnswer.{lcp_answer}
+use Rattle.ppp_link.specs.LcpCalls.{answered, cause_of, followed, open_marked, called_part, followed_by, lcp_called, lcp_entered, lcp_heard, protocol_rejected, with_answer}
+use Rattle.ppp_link.specs.LinkState.{LinkState, agreed, control, has_passed, is_busy, is_lasting, is_open, lcp_state, outcome_of, AuthPart, LcpPart, Listener, Nobody, Chatting, Framing}
+use Rattle.ppp_mark.specs.Marks.{refused_mark}
+use Rattle.ppp_link.specs.Marking.{marked}
+use Rattle.ppp_link.specs.Phase.{Phase, may_ask, phase_by, Treatment, ToLcp, ToAuth, ToTable, ToReject, Discarded}
+use Rattle.ppp_link.specs.Posts.{live_if, made_member, member_marked, member_if, post_taken, rejected_in, sent_in}
 use Rattle.ppp_link.specs.Sending.{frame_sent, octets_sent, packets_sent, phase_sent}
-use Rattle.ppp_link.specs.Sessions.{attempted, dial_answered, dial_come, dial_told_over, line_come, line_come_if, line_gone, line_gone_if, line_lost, over_if, over_marked, session_over}
-use Rattle.ppp_link.specs.Ticking.{slots_treated, treated as slot_treated, treated_if}
+use Rattle.ppp_link.specs.Sessions.{attempted, is_over, dial_answered, dial_come, dial_told_over, line_come, line_come_if, line_gone, line_gone_if, line_lost, with_dial_back, with_failure, with_line, with_line_ended, over_if, over_marked, session_over}
+use Rattle.ppp_link.specs.Ticking.{moments_of, slots_treated, treated as slot_treated, treated_if}
 use Rattle.ppp_link.specs.Unchanged.{Unchanged}
 
 pub unchanged : (s : LinkState) → Unchanged s s
@@ -70,9 +82,12 @@ no-signal time (Started true n ∷ hooks) past = no-signal time hooks past
 no-signal time (Started false n ∷ hooks) past = no-signal time hooks past
 no-signal time (Ended answer job ∷ hooks) past = no-signal time hooks past
 
+pub due-signals : (time : ℕ) (past : List Mark) → signals_in (due_marks time past ++ past) ≡ signals_in past
+due-signals time past = no-signal time (due_after (said_in past)) past
+
 pub closed-signals : (id time : ℕ) (o : Option ℕ) (log : LogState) → signals_in (log_closed_at (Link id) time o log).past ≡ signals_in log.past
 closed-signals id time None log = refl
-closed-signals id time (Some n) log = no-signal time _ _
+closed-signals id time (Some n) log = due-signals time (closed_mark (Link id) time n ∷ log.past)
 
 pub closed-limit : (id time : ℕ) (o : Option ℕ) (log : LogState) → (log_closed_at (Link id) time o log).limit ≡ log.limit
 closed-limit id time None log = refl
@@ -112,7 +127,7 @@ left-by (Some stay) s = record { id = refl; config = refl; wish = refl; secrets 
 
 pub lcp-left : (s : LinkState) → Unchanged s (lcp_left s)
 unfolding lcp_left
-lcp-left s = then {b = record s { log = _; deframer = _ }} (record { id = refl; config = refl; wish = refl; secrets = refl; time = refl; limit = refl; signals = refl }) (then (auth-closed _) (left-by _ _))
+lcp-left s = then {b = closed_marked s} (record { id = refl; config = refl; wish = refl; secrets = refl; time = refl; limit = refl; signals = refl }) (then (auth-closed _) (left-by _ _))
 
 pub left-if : (b : Bool) (s : LinkState) → Unchanged s (left_if b s)
 left-if true s = lcp-left s
@@ -123,7 +138,7 @@ is-closing was_open out part s = then (then {b = with_call (by_itself closes) s.
 
 pub closed-part : (part : Option LcpPart) (s : LinkState) → Unchanged s (closed_part part s)
 closed-part None s = unchanged s
-closed-part (Some part) s = is-closing _ _ part s
+closed-part (Some part) s = is-closing (is_open s) (lcp_answer s.wish part.words part.calls (by_itself closes) s.time) part s
 
 pub lcp-closed : (s : LinkState) → Unchanged s (lcp_closed s)
 unfolding lcp_closed
@@ -139,12 +154,12 @@ ended-if false c s = unchanged s
 
 pub ended-by : (c : Cause) (s : LinkState) → Unchanged s (ended_by c s)
 unfolding ended_by
-ended-by c s = ended-if _ c s
+ended-by c s = ended-if (is_busy s) c s
 
 -- AUTHENTICATION
 
 pub auth-opened : (peer : List ℕ) (s : LinkState) → Unchanged s (auth_opened peer s)
-auth-opened peer s = record { id = refl; config = refl; wish = refl; secrets = refl; time = refl; limit = refl; signals = no-signal s.time _ _ }
+auth-opened peer s = record { id = refl; config = refl; wish = refl; secrets = refl; time = refl; limit = refl; signals = due-signals s.time (opened_mark (Link s.id) s.time (next_opening s.log) ∷ s.log.past) }
 
 pub opened-for : (peer : Option (List ℕ)) (s : LinkState) → Unchanged s (opened_for peer s)
 opened-for None s = unchanged s
@@ -161,7 +176,10 @@ phase-told out now s = then (phase-sent out.packets s) (then (opened-for out.pee
 
 pub phase-part : (call : PhaseCall) (part : Option AuthPart) (s : LinkState) → Unchanged s (phase_part call part s)
 phase-part call None s = unchanged s
-phase-part call (Some part) s = then {b = with_phase (record { now = s.time; call = call }) part s} (record { id = refl; config = refl; wish = refl; secrets = refl; time = refl; limit = refl; signals = refl }) (phase-told _ _ _)
+phase-part call (Some part) s =
+    let c : PhaseAt = record { now = s.time; call = call } in
+    then {b = with_phase c part s} (record { id = refl; config = refl; wish = refl; secrets = refl; time = refl; limit = refl; signals = refl })
+    (phase-told (told_at part.setting c part.calls) (outcome_in part.setting (c ∷ part.calls)) (with_phase c part s))
 
 pub phase-called : (call : PhaseCall) (s : LinkState) → Unchanged s (phase_called call s)
 unfolding phase_called
@@ -173,7 +191,7 @@ phase-begun-by (Some terms) s = then {b = new_phase terms s} (record { id = refl
 
 pub phase-begun : (s : LinkState) → Unchanged s (phase_begun s)
 unfolding phase_begun
-phase-begun s = phase-begun-by _ s
+phase-begun s = phase-begun-by (agreed s) s
 
 pub phase-heard : (protocol : ℕ) (packet : Option Packet) (s : LinkState) → Unchanged s (phase_heard protocol packet s)
 phase-heard protocol None s = unchanged s
@@ -187,18 +205,18 @@ asked-by PeerFailed terms s = unchanged s
 asked-by WeFailed terms s = unchanged s
 
 pub asked-if : (b : Bool) (s : LinkState) → Unchanged s (asked_if b s)
-asked-if true s = asked-by _ _ s
+asked-if true s = asked-by (outcome_of s.auth) (agreed s) s
 asked-if false s = unchanged s
 
 pub join-tried : (s : LinkState) → Unchanged s (join_tried s)
 unfolding join_tried
-join-tried s = asked-if _ s
+join-tried s = asked-if (may_ask (phase_by (is_open s) (has_passed (outcome_of s.auth))) (control s).stay (has_control s.up.waiting)) s
 
 -- LCP
 
 pub lcp-entered : (s : LinkState) → Unchanged s (lcp_entered s)
 unfolding lcp_entered
-lcp-entered s = then {b = record s { log = _; deframer = _ }} (record { id = refl; config = refl; wish = refl; secrets = refl; time = refl; limit = refl; signals = refl }) (phase-begun _)
+lcp-entered s = then {b = open_marked s} (record { id = refl; config = refl; wish = refl; secrets = refl; time = refl; limit = refl; signals = refl }) (phase-begun _)
 
 pub followed-by : (was is : Bool) (s : LinkState) → Unchanged s (followed_by was is s)
 followed-by false false s = unchanged s
@@ -208,11 +226,15 @@ followed-by true true s = unchanged s
 
 pub is-answered : (was_open : Bool) (c : Option Cause) (out : LcpOut) (s : LinkState) → Unchanged s (answered was_open c out s)
 unfolding answered
-is-answered was_open c out s = then (first-caused c _ s) (then (packets-sent out.packets _) (then (followed-by was_open _ _) (closed-if _ _)))
+is-answered was_open c out s =
+    let a : LinkState = first_caused c s in
+    let b : LinkState = packets_sent out.packets a in
+    let d : LinkState = followed was_open b in
+    then {b = a} (first-caused c (is_busy s) s) (then {b = b} (packets-sent out.packets a) (then {b = d} (followed-by was_open (is_open b) b) (closed-if (is_first c s) d)))
 
 pub lcp-part : (call : Call (Unit {0})) (now : ℕ) (part : Option LcpPart) (s : LinkState) → Unchanged s (called_part call now part s)
 lcp-part call now None s = unchanged s
-lcp-part call now (Some part) s = then {b = with_call call now _ part s} (record { id = refl; config = refl; wish = refl; secrets = refl; time = refl; limit = refl; signals = refl }) (is-answered _ _ _ _)
+lcp-part call now (Some part) s = then {b = with_call call now (lcp_answer s.wish part.words part.calls call now) part s} (record { id = refl; config = refl; wish = refl; secrets = refl; time = refl; limit = refl; signals = refl }) (is-answered (is_open s) (cause_of (lcp_state s) (lcp_answer s.wish part.words part.calls call now)) (lcp_answer s.wish part.words part.calls call now) (with_call call now (lcp_answer s.wish part.words part.calls call now) part s))
 
 pub lcp-called : (call : Call (Unit {0})) (s : LinkState) → Unchanged s (lcp_called call s)
 unfolding lcp_called
@@ -229,15 +251,15 @@ lcp-heard (Some packet) s = lcp-called _ s
 -- HEARING
 
 pub is-treated : (t : Treatment) (protocol : ℕ) (information : List ℕ) (s : LinkState) → Unchanged s (treated t protocol information s)
-is-treated ToLcp protocol information s = lcp-heard _ s
-is-treated ToAuth protocol information s = phase-heard protocol _ s
+is-treated ToLcp protocol information s = lcp-heard (packet_in information) s
+is-treated ToAuth protocol information s = phase-heard protocol (packet_in information) s
 is-treated ToTable protocol information s = record { id = refl; config = refl; wish = refl; secrets = refl; time = refl; limit = refl; signals = refl }
 is-treated ToReject protocol information s = protocol-rejected protocol information s
 is-treated Discarded protocol information s = unchanged s
 
 pub frame-taken : (protocol : ℕ) (information : List ℕ) (s : LinkState) → Unchanged s (frame_taken protocol information s)
 unfolding frame_taken
-frame-taken protocol information s = is-treated _ protocol information s
+frame-taken protocol information s = is-treated (Phase (phase_by (is_open s) (has_passed (outcome_of s.auth))) (agreed s) protocol) protocol information s
 
 pub ended-if-many : (b : Bool) (s : LinkState) → Unchanged s (ended_if_many b s)
 ended-if-many true s = ended-by _ s
@@ -245,7 +267,7 @@ ended-if-many false s = unchanged s
 
 pub looked-after : (s : LinkState) → Unchanged s (looked_after s)
 unfolding looked_after
-looked-after s = then (join-tried s) (ended-if-many _ _)
+looked-after s = then {b = join_tried s} (join-tried s) (ended-if-many (has_many (join_tried s)) (join_tried s))
 
 pub heard-taken : (h : Heard) (s : LinkState) → Unchanged s (heard_taken h s)
 heard-taken heard.Nothing s = unchanged s
@@ -265,7 +287,7 @@ chat-told (aborted number) s = ended-by _ s
 
 pub chat-called : (event : ChatEvent) (calls : List ChatEvent) (s : LinkState) → Unchanged s (chat_called event calls s)
 unfolding chat_called
-chat-called event calls s = then {b = record s { listener = Chatting (calls ++ event ∷ []) }} (record { id = refl; config = refl; wish = refl; secrets = refl; time = refl; limit = refl; signals = refl }) (chat-told _ _)
+chat-called event calls s = then {b = record s { listener = Chatting (calls ++ event ∷ []) }} (record { id = refl; config = refl; wish = refl; secrets = refl; time = refl; limit = refl; signals = refl }) (chat-told (chat_answer s.config.script calls event) (record s { listener = Chatting (calls ++ event ∷ []) }))
 
 pub talk-begun : (script : Option ChatScript) (s : LinkState) → Unchanged s (talk_begun_by script s)
 talk-begun None s = link-opened s
@@ -274,12 +296,12 @@ talk-begun (Some script) s = chat-called _ _ s
 pub octet-to : (l : Listener) (octet : ℕ) (s : LinkState) → Unchanged s (octet_to l octet s)
 octet-to Nobody octet s = unchanged s
 octet-to (Chatting calls) octet s = chat-called _ calls s
-octet-to Framing octet s = then {b = with_fed octet s} (record { id = refl; config = refl; wish = refl; secrets = refl; time = refl; limit = refl; signals = refl }) (heard-taken _ _)
+octet-to Framing octet s = then {b = with_fed octet s} (record { id = refl; config = refl; wish = refl; secrets = refl; time = refl; limit = refl; signals = refl }) (heard-taken (heard_at octet s.deframer) (with_fed octet s))
 
 pub octets-taken : (octets : List ℕ) (s : LinkState) → Unchanged s (octets_taken octets s)
 unfolding octet_taken
 octets-taken [] s = unchanged s
-octets-taken (octet ∷ octets) s = then (octet-to _ octet s) (octets-taken octets _)
+octets-taken (octet ∷ octets) s = then {b = octet_taken octet s} (octet-to s.listener octet s) (octets-taken octets (octet_taken octet s))
 
 pub chat-ticked : (l : Listener) (s : LinkState) → Unchanged s (chat_ticked_by l s)
 chat-ticked Nobody s = unchanged s
@@ -301,19 +323,20 @@ dial-answered (Finish status) s = record { id = refl; config = refl; wish = refl
 
 pub line-come : (s : LinkState) → Unchanged s (line_come s)
 unfolding line_come
-line-come s = then {b = record s { log = _; reading = _; writing = _; lcp = _; words = _ }} (record { id = refl; config = refl; wish = refl; secrets = refl; time = refl; limit = refl; signals = refl }) (talk-begun _ _)
+line-come s = then {b = with_line s} (record { id = refl; config = refl; wish = refl; secrets = refl; time = refl; limit = refl; signals = refl }) (talk-begun s.config.script (with_line s))
 
 pub line-come-if : (b : Bool) (s : LinkState) → Unchanged s (line_come_if b s)
 line-come-if true s = line-come s
 line-come-if false s = unchanged s
 
 pub dial-come : (came : Bool) (s : LinkState) → Unchanged s (dial_come came s)
-dial-come true s = then {b = record s { dial = _ }} (record { id = refl; config = refl; wish = refl; secrets = refl; time = refl; limit = refl; signals = refl }) (line-come-if _ _)
-dial-come false s = then {b = record s { dial = _; failed_dials = _ }} (record { id = refl; config = refl; wish = refl; secrets = refl; time = refl; limit = refl; signals = refl }) (ended-by _ _)
+dial-come true s = then {b = with_dial_back s} (record { id = refl; config = refl; wish = refl; secrets = refl; time = refl; limit = refl; signals = refl }) (line-come-if (is_busy s) (with_dial_back s))
+dial-come false s = then {b = with_failure s} (record { id = refl; config = refl; wish = refl; secrets = refl; time = refl; limit = refl; signals = refl }) (ended-by _ _)
 
 pub line-gone : (c : Cause) (s : LinkState) → Unchanged s (line_gone c s)
-line-gone c s = then {b = record s { line_ended = _; listener = _ }} (record { id = refl; config = refl; wish = refl; secrets = refl; time = refl; limit = refl; signals = refl })
-    (then (first-caused (Some c) _ _) (then (lcp-called _ _) (closed-if _ _)))
+line-gone c s = then {b = with_line_ended s} (record { id = refl; config = refl; wish = refl; secrets = refl; time = refl; limit = refl; signals = refl })
+    (let a : LinkState = first_caused (Some c) (with_line_ended s) in
+    then {b = a} (first-caused (Some c) (is_busy (with_line_ended s)) (with_line_ended s)) (then (lcp-called (by_itself goes_down) a) (closed-if (is_first (Some c) s) (lcp_called (by_itself goes_down) a))))
 
 pub line-gone-if : (b : Bool) (c : Cause) (s : LinkState) → Unchanged s (line_gone_if b c s)
 line-gone-if true c s = line-gone c s
@@ -321,18 +344,18 @@ line-gone-if false c s = unchanged s
 
 pub line-lost : (c : Cause) (s : LinkState) → Unchanged s (line_lost c s)
 unfolding line_lost
-line-lost c s = line-gone-if _ c s
+line-lost c s = line-gone-if (is_lasting s && not s.line_ended) c s
 
 pub is-over-marked : (s : LinkState) → Unchanged s (over_marked s)
 is-over-marked s = record { id = refl; config = refl; wish = refl; secrets = refl; time = refl; limit = refl; signals = refl }
 
 pub over-if : (b : Bool) (s : LinkState) → Unchanged s (over_if b s)
-over-if true s = then (is-over-marked s) (dial-answered _ _)
+over-if true s = then {b = over_marked s} (is-over-marked s) (dial-answered (dial_says (SessionOver (end_by s.config.line (control s).was_live (control s).cause)) (over_marked s)) (over_marked s))
 over-if false s = unchanged s
 
 pub session-over : (s : LinkState) → Unchanged s (session_over s)
 unfolding session_over
-session-over s = over-if _ s
+session-over s = over-if (is_over s) s
 
 -- SLOTS
 
@@ -341,7 +364,7 @@ slot-treated slot.LcpRestart s = lcp-called _ s
 slot-treated slot.AuthRestart s = phase-called _ s
 slot-treated slot.AuthEnd s = unchanged s
 slot-treated slot.Echo s = unchanged s
-slot-treated slot.Hold s = dial-answered _ s
+slot-treated slot.Hold s = dial-answered (dial_says call.Tick s) s
 slot-treated slot.IpcpRestart s = unchanged s
 slot-treated slot.Idle s = unchanged s
 slot-treated slot.Connect s = unchanged s
@@ -352,7 +375,7 @@ slot-treated-if false which s = unchanged s
 
 pub slots-treated : (slots : List Slot) (s : LinkState) → Unchanged s (slots_treated slots s)
 slots-treated [] s = unchanged s
-slots-treated (which ∷ slots) s = then (slot-treated-if _ which s) (slots-treated slots _)
+slots-treated (which ∷ slots) s = then {b = treated_if (is_some (moment_of (moments_of s) which)) which s} (slot-treated-if (is_some (moment_of (moments_of s) which)) which s) (slots-treated slots (treated_if (is_some (moment_of (moments_of s) which)) which s))
 
 -- POSTS
 
@@ -364,6 +387,10 @@ pub live-if : (b : Bool) (unit stay : ℕ) (s : LinkState) → Unchanged s (live
 live-if true unit stay s = record { id = refl; config = refl; wish = refl; secrets = refl; time = refl; limit = refl; signals = refl }
 live-if false unit stay s = unchanged s
 
+pub made-member : (stay unit : ℕ) (live : Bool) (s : LinkState) → Unchanged s (made_member stay unit live s)
+made-member stay unit live s = then {b = member_marked unit stay s} (member-if (is_none (control s).unit) unit stay s)
+    (live-if (live && not (control (member_marked unit stay s)).live) unit stay (member_marked unit stay s))
+
 pub sent-in : (stay : Option ℕ) (protocol : ℕ) (information : List ℕ) (s : LinkState) → Unchanged s (sent_in stay protocol information s)
 sent-in None protocol information s = unchanged s
 sent-in (Some stay) protocol information s = frame-sent protocol information s
@@ -374,9 +401,9 @@ rejected-in (Some stay) protocol information s = protocol-rejected protocol info
 
 pub post-taken : (post : Post) (s : LinkState) → Unchanged s (post_taken post s)
 unfolding post_taken
-post-taken (Member stay unit live) s = then (member-if _ unit stay s) (live-if _ unit stay _)
-post-taken (Refused stay reason) s = then {b = record s { log = _ }} (record { id = refl; config = refl; wish = refl; secrets = refl; time = refl; limit = refl; signals = refl }) (ended-by _ _)
-post-taken (Close stay unit why elapsed live) s = then (then (member-if _ unit stay s) (live-if _ unit stay _)) (ended-by _ _)
-post-taken (Send protocol information) s = sent-in _ protocol information s
-post-taken (Reject protocol information) s = rejected-in _ protocol information s
-post-taken Wake s = dial-answered _ s
+post-taken (Member stay unit live) s = made-member stay unit live s
+post-taken (Refused stay reason) s = then {b = marked (λ time. refused_mark time reason stay) s} (record { id = refl; config = refl; wish = refl; secrets = refl; time = refl; limit = refl; signals = refl }) (ended-by _ _)
+post-taken (Close stay unit why elapsed live) s = then {b = made_member stay unit live s} (made-member stay unit live s) (ended-by _ _)
+post-taken (Send protocol information) s = sent-in (control s).stay protocol information s
+post-taken (Reject protocol information) s = rejected-in (control s).stay protocol information s
+post-taken Wake s = dial-answered (dial_says call.Wake s) s

@@ -56,8 +56,11 @@ abbrev pub with_map : ℕ → LinkState → LinkState
 with_map map s = record s { deframer = record s.deframer { map = map } }
 
 -- The default map counts again from the next octet on.
+abbrev pub closed_marked : LinkState → LinkState
+closed_marked s = with_map DEFAULT_MAP (marked (λ time. lcp_closed_mark time (control s).openings) s)
+
 unfoldable pub lcp_left : LinkState → LinkState
-lcp_left s = stay_left (auth_closed (with_map DEFAULT_MAP (marked (λ time. lcp_closed_mark time (control s).openings) s)))
+lcp_left s = stay_left (auth_closed (closed_marked s))
 
 abbrev pub left_if : Bool → LinkState → LinkState
 left_if true s = lcp_left s

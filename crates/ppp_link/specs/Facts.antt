@@ -1,25 +1,19 @@
 -- What is true of a link beside what its rules say.
 use Rattle.std.specs.Prelude.{ℕ, ◌≡◌, ◌≢◌, ◌&&◌, ◌||◌, Bool, true, false, Option, None, Some, is_some}
-use Rattle.ppp_auth.specs.declared.outcome.Side.{Side}
-use Rattle.ppp_auth.specs.declared.outcome.Side.TheVariants.{Done as done}
-use Rattle.ppp_auth.specs.Judged.{peer_side}
+use Rattle.ppp_auth.specs.Outcome.{peer_passed}
 use Rattle.ppp_base.specs.declared.posts.Post.TheVariants.{Wake}
 use Rattle.ppp_base.specs.declared.signal_word.SignalWord.TheVariants.{Int, Term}
 use Rattle.ppp_mark.specs.Scripts.{LogLaw, LogSettled}
 use Rattle.ppp_link.specs.LinkEvent.{Event, Begin, Signal, FromTable}
-use Rattle.ppp_link.specs.LinkState.{AuthPart, LinkState, control, is_open}
+use Rattle.ppp_link.specs.LinkState.{AuthPart, LinkState, control, has_passed, is_open}
 use Rattle.ppp_link.specs.Marks.{New, Waits}
 
 -- SCRIPTS (pppd(8), "auth-up", "auth-down")
 
-abbrev pub is_done : Side → Bool
-is_done done = true
-is_done _ = false
-
 -- whether the peer must prove itself, and has
 abbrev pub is_proved : Option AuthPart → Bool
 is_proved None = false
-is_proved (Some part) = is_some part.setting.peer_proves && is_done (peer_side part.setting.peer_proves part.setting part.calls)
+is_proved (Some part) = is_some part.setting.peer_proves && has_passed (peer_passed part.setting.peer_proves part.setting part.calls)
 
 -- The protocol of a link: its peer must prove itself and has done so, and LCP hasn't left Opened since.
 abbrev pub is_protocol_open : LinkState → Bool

@@ -44,14 +44,17 @@ dial_answered (Finish status) s = marked (λ time. finished_mark time status) s
 
 -- THE LINE
 
--- A fresh LCP part is made, whose generator begins with the next two words, and the session talks.
-unfoldable pub line_come : LinkState → LinkState
-line_come s = talk_begun (record (marked (λ time. line_mark time (control s).session) s) {
+-- A fresh LCP part is made, whose generator begins with the next two words.
+abbrev pub with_line : LinkState → LinkState
+with_line s = record (marked (λ time. line_mark time (control s).session) s) {
   reading = Waiting;
   writing = Waiting;
   lcp = Some (record { words = branch_of s.words; calls = [] });
   words = state_after 2 s.words;
-})
+}
+
+unfoldable pub line_come : LinkState → LinkState
+line_come s = talk_begun (with_line s)
 
 -- A line that comes in a session that has a cause is dropped at once.
 abbrev pub line_come_if : Bool → LinkState → LinkState
@@ -59,13 +62,22 @@ line_come_if true s = line_come s
 line_come_if false s = s
 
 -- The dial has come back, with a line or without one.
+abbrev pub with_dial_back : LinkState → LinkState
+with_dial_back s = record s { dial = Absent }
+
+abbrev pub with_failure : LinkState → LinkState
+with_failure s = record s { dial = Absent; failed_dials = s.failed_dials + 1 }
+
 abbrev pub dial_come : Bool → LinkState → LinkState
-dial_come true s = line_come_if (is_busy s) (record s { dial = Absent })
-dial_come false s = ended_by dial_failed (record s { dial = Absent; failed_dials = s.failed_dials + 1 })
+dial_come true s = line_come_if (is_busy s) (with_dial_back s)
+dial_come false s = ended_by dial_failed (with_failure s)
 
 -- A line that ends gives LCP Down, behind the mark of the cause; then the cause closes LCP.
+abbrev pub with_line_ended : LinkState → LinkState
+with_line_ended s = record s { line_ended = true; listener = Nobody }
+
 abbrev pub line_gone : Cause → LinkState → LinkState
-line_gone c s = closed_if (is_first (Some c) s) (lcp_called (by_itself goes_down) (first_caused (Some c) (record s { line_ended = true; listener = Nobody })))
+line_gone c s = closed_if (is_first (Some c) s) (lcp_called (by_itself goes_down) (first_caused (Some c) (with_line_ended s)))
 
 abbrev pub line_gone_if : Bool → Cause → LinkState → LinkState
 line_gone_if true c s = line_gone c s

@@ -5,6 +5,7 @@ ghost use Rattle.ppp_base.specs.declared.signal_word.SignalWord.TheVariants.{Ter
 ghost use Rattle.ppp_fsm.specs.declared.fsm.Limits.{Limits};
 ghost use Rattle.ppp_link.specs.History.{GoesOn, HearsAll, terms_of};
 ghost use Rattle.ppp_link.specs.LinkEvent.{Begin, Dialled, Signal};
+ghost use Rattle.ppp_link.specs.LinkPart.{after};
 ghost use Rattle.ppp_link.specs.Rows.{link_of, nomagic, rx, step, with_line};
 ghost use Rattle.ppp_link.specs.WorkedHistory.{asked, begun, stopped};
 
@@ -12,7 +13,8 @@ ghost use Rattle.ppp_link.specs.WorkedHistory.{asked, begun, stopped};
 /// told to stop, and one that heard the peer's request.
 pub fn sessions_look_back()
     ensures dials { (limits : Limits) → HearsAll (terms_of (step Begin (link_of limits nomagic))) (step Begin (link_of limits nomagic)) [] }
-    ensures goes_on { (limits : Limits) → GoesOn (terms_of (step Begin (link_of limits nomagic))) (step Begin (link_of limits nomagic)) [] (Dialled 1 1 0 true) (step (Dialled 1 1 0 true) (step Begin (link_of limits nomagic))) }
+    ensures goes_on { (limits : Limits) → GoesOn (terms_of (step Begin (link_of limits nomagic))) (step Begin (link_of limits nomagic)) [] (Dialled 1 1 0 true)
+        (after (Dialled 1 1 0 true) (step Begin (link_of limits nomagic))) }
     ensures begun { (limits : Limits) → HearsAll (terms_of (step Begin (link_of limits nomagic))) (with_line (link_of limits nomagic)) begun }
     ensures stopped { (limits : Limits) → HearsAll (terms_of (step Begin (link_of limits nomagic))) (step (Signal Term) (with_line (link_of limits nomagic))) stopped }
     ensures asked { (limits : Limits) → HearsAll (terms_of (step Begin (link_of limits nomagic))) (rx 0xc021 (1 ∷ 1 ∷ 0 ∷ 4 ∷ []) (with_line (link_of limits nomagic))) asked }

@@ -1,6 +1,10 @@
 -- Each session computes.
-use Rattle.std.proofs.Common.{refl, [], false≢true}
+use Rattle.std.proofs.Common.{refl, [], ◌∷◌, true}
+use Rattle.std.proofs.lemmas.Bool.{false≢true}
 use Rattle.ppp_link.specs.WorkedHistory.{begun}
+use Rattle.ppp_link.specs.LinkEvent.{Begin, Dialled}
+use Rattle.ppp_link.specs.LinkPart.{happened}
+use Rattle.ppp_link.specs.Rows.{link_of, nomagic, step}
 use Rattle.ppp_secrets.specs.Lookup.{line_for}
 use Rattle.ppp_fsm.specs.Fsm.{acts_of, after}
 use Rattle.ppp_packet.specs.OptionList.{items_of, read_options}
@@ -41,7 +45,7 @@ returns-clause-dials c limits = record {
 
 pub returns-clause-goes_on : goal.returns-clause-goes_on
 unfolding line_for acts_of after items_of read_options packet_in answer_to Asked word_of skipped body fcs_octets with_fcs escaped flagged enclosed bits number plus zeros divisor bring_down remainder with_first_complemented Residue fed heard_at after_event looked_after frame_taken link_opened chat_called octet_taken phase_called phase_begun join_tried caused lcp_left lcp_closed ended_by lcp_answer lcp_entered answered lcp_called protocol_rejected attempted line_come line_lost session_over ticked signal_taken post_taken frame_sent unescaped ends_escaping answer Frames
-returns-clause-goes_on c limits = record { reached = _; since = begun; hears = record {
+returns-clause-goes_on c limits = record { reached = looked_after (happened (Dialled 1 1 0 true) (step Begin (link_of limits nomagic))); since = begun; hears = record {
     done = refl;
     few = λ first. refl;
     reached = record {
