@@ -1,1 +1,2 @@
 mod UnchangedLemmas
+mod CountLemmas

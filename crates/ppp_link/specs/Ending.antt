@@ -55,10 +55,11 @@ stay_left s = left_by (control s).stay s
 abbrev pub with_map : ℕ → LinkState → LinkState
 with_map map s = record s { deframer = record s.deframer { map = map } }
 
--- The default map counts again from the next octet on.
+-- its mark, and the default map from the next octet on
 abbrev pub closed_marked : LinkState → LinkState
 closed_marked s = with_map DEFAULT_MAP (marked (λ time. lcp_closed_mark time (control s).openings) s)
 
+-- LCP has left Opened: authentication and the stay end with it.
 unfoldable pub lcp_left : LinkState → LinkState
 lcp_left s = stay_left (auth_closed (closed_marked s))
 

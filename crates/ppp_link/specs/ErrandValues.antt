@@ -2,6 +2,7 @@
 use Rattle.std.specs.Prelude.{ℕ, ◌+◌, ◌-◌, ◌<◌, ◌≤◌, ◌≡◌, Bool, true, false, not, Option, None, Some, is_some, List, length, take, ⊤}
 use Rattle.std.specs.Io.KnownBytes.{Appends, IsAtEnd}
 use Rattle.ppp_hooks.specs.HookCounts.{CountsFrom}
+use Rattle.ppp_outside.specs.Counts.{Rose}
 use Rattle.ppp_outside.specs.Line.{LineState}
 use Rattle.ppp_outside.specs.Sink.{SinkState}
 use Rattle.ppp_outside.specs.declared.line_words.LineWords.{LineWords}
@@ -88,7 +89,8 @@ abbrev pub IsSentEnd : SentEnd → SinkState → Type 0
 IsSentEnd sent.All sink = ⊤
 IsSentEnd (sent.Failed count) sink = 0 < sink.faults
 
--- All the octets were appended; or where the sink failed, so many from their front.
+-- All the octets were appended; or the sink failed, and so many from their front were.
 abbrev pub HasSent : SentEnd → SinkState → SinkState → List ℕ → Type 0
 HasSent sent.All old new octets = Appends old.written new.written octets × (new.faults ≡ old.faults)
-HasSent (sent.Failed count) old new octets = (count ≤ length octets) × Appends old.written new.written (take count octets)
+HasSent (sent.Failed count) old new octets =
+    (count ≤ length octets) × Appends old.written new.written (take count octets) × Rose old.faults new.faults

@@ -1,13 +1,12 @@
 -- What a session heard and did, by looking back over all that happened since its attempt, the newest first. Nothing here says in which order the rules of a link
 -- do their work: only what a frame asks, what each call answers, what is due, and which reason each end of a session has.
-use Rattle.std.specs.Prelude.{ℕ, ◌≡◌, ◌+◌, ◌-◌, ◌*◌, ◌==◌, ◌&&◌, ◌||◌, not, max, min, nat_le, nat_lt, Bool, true, false, if◌then◌else◌, Option, None, Some, is_some, is_none, List, [], ◌∷◌, ◌++◌, ⊤, map, filter}
+use Rattle.std.specs.Prelude.{ℕ, ◌≡◌, ◌+◌, ◌-◌, ◌*◌, ◌==◌, ◌&&◌, ◌||◌, not, max, min, nat_le, nat_lt, Bool, true, false, if◌then◌else◌, Option, None, Some, is_some, is_none, List, [], ◌∷◌, ◌++◌, ⊤, length, map, filter}
 use Rattle.ppp_base.specs.RandomWords.{branch_of, challenge_of, state_after}
 use Rattle.ppp_base.specs.declared.posts.Post.TheVariants.{Member, Refused, Close, Send, Reject, Wake}
 use Rattle.ppp_base.specs.declared.protocol.TheConstants.{LCP}
 use Rattle.ppp_base.specs.declared.send_settings.SendSettings.{SendSettings}
 use Rattle.ppp_base.specs.declared.signal_word.SignalWord.TheVariants.{Hup, Int, Term, Usr1, Usr2}
 use Rattle.ppp_chat.specs.ChatOf.{ChatOf}
-use Rattle.ppp_chat.specs.Talk.{answer_after}
 use Rattle.ppp_chat.specs.Script.{ChatScript}
 use Rattle.ppp_chat.specs.declared.event.Event.{Event as ChatEvent}
 use Rattle.ppp_chat.specs.declared.now.ChatEnd.{ChatEnd}
@@ -37,6 +36,7 @@ use Rattle.ppp_auth.specs.declared.out.PhasePacket.{PhasePacket}
 use Rattle.ppp_auth.specs.declared.outcome.AuthNow.{AuthNow}
 use Rattle.ppp_auth.specs.declared.outcome.AuthNow.TheVariants as stands
 use Rattle.ppp_secrets.specs.declared.secrets.SecretsPair.{SecretsPair}
+use Rattle.ppp_outside.specs.Counts.{raised}
 use Rattle.ppp_timer.specs.Due.{has_come}
 use Rattle.ppp_mark.specs.declared.mark.Mark.{Mark}
 use Rattle.ppp_mark.specs.declared.kind.TheConstants.{ATTEMPT, CAUSE}
@@ -48,6 +48,8 @@ use Rattle.ppp_link.specs.declared.errand.SentEnd.TheVariants as sent
 use Rattle.ppp_link.specs.declared.limits.TheConstants.{MOST_MARKS, MOST_TIME}
 use Rattle.ppp_link.specs.CauseStatus.{cause, chat_aborted, chat_timed_out, closed_by, dial_failed, gave_up, join_refused, line_ended, peer_ended, peer_failed, read_failed, refused, signalled, too_many_marks, we_failed, write_failed}
 use Rattle.ppp_link.specs.FrameCounts.{counts_from}
+use Rattle.ppp_link.specs.Hearing.{chat_answer}
+use Rattle.ppp_link.specs.Kept.{time_after}
 use Rattle.ppp_link.specs.LinkEvent.{Event, Begin, Dialled, Bytes, LineOver, Flushed, Tick, Signal, FromTable, HookOver}
 use Rattle.ppp_link.specs.LinkState.{AuthPart, LcpPart, LinkState, Listener, Nobody, Chatting, Framing, control, has_passed}
 use Rattle.ppp_link.specs.Marks.{since_in}
@@ -69,9 +71,11 @@ pub data Moment : Type 0 where
   Posts : (protocol : ℕ) → (information : List ℕ) → Moment
   Ends : (cause : Cause) → (marks : ℕ) → Moment
 
--- what stays in a session: its options, what they ask of LCP, and the secrets; as its attempt begins, the time, the state of the link's generator, and what
+-- what stays in a session: the link's number and its own, its options, what they ask of LCP, and the secrets; as its attempt begins, the time, the state of the link's generator, and what
 -- had been counted
 pub record Terms : Type 0 where
+  pub link : ℕ
+  pub session : ℕ
   pub config : LinkValues
   pub wish : LcpWish
   pub secrets : SecretsPair
@@ -81,25 +85,14 @@ pub record Terms : Type 0 where
 
 -- of a session whose attempt begins now
 abbrev pub terms_of : LinkState → Terms
-terms_of s = record { config = s.config; wish = s.wish; secrets = s.secrets; began = s.time; words = s.words; counts = s.counts }
+terms_of s = record { link = s.id; session = (control s).session; config = s.config; wish = s.wish; secrets = s.secrets; began = s.time; words = s.words; counts = s.counts }
 
 -- WHAT LOOKING BACK GIVES
 
--- the time: the greatest tick
-abbrev pub time_with : Event → ℕ → ℕ
-time_with (Tick now) time = max time (min now MOST_TIME)
-time_with _ time = time
-
 abbrev pub time_in : Terms → List Moment → ℕ
 time_in terms [] = terms.began
-time_in terms (Comes event stay ∷ past) = time_with event (time_in terms past)
+time_in terms (Comes event stay ∷ past) = time_after event (time_in terms past)
 time_in terms (_ ∷ past) = time_in terms past
-
--- the newest event, and its stay
-abbrev pub event_in : List Moment → Option Event
-event_in [] = None
-event_in (Comes event stay ∷ past) = Some event
-event_in (_ ∷ past) = event_in past
 
 abbrev pub is_tick : Event → Bool
 is_tick (Tick now) = true
@@ -151,6 +144,27 @@ abbrev pub has_ended : List Moment → Bool
 has_ended [] = false
 has_ended (Comes event stay ∷ past) = ends_line event || has_ended past
 has_ended (_ ∷ past) = has_ended past
+
+-- whether the bundle was live: a Member or Close post said so
+abbrev pub makes_live : Event → Bool
+makes_live (FromTable (Member stay unit live)) = live
+makes_live (FromTable (Close stay unit why elapsed live)) = live
+makes_live _ = false
+
+abbrev pub was_live_at : List Moment → Bool
+was_live_at [] = false
+was_live_at (Comes event stay ∷ past) = makes_live event || was_live_at past
+was_live_at (_ ∷ past) = was_live_at past
+
+-- how many octets came
+abbrev pub octets_of : Event → List ℕ
+octets_of (Bytes link session offset octets) = octets
+octets_of _ = []
+
+abbrev pub came_in : List Moment → ℕ
+came_in [] = 0
+came_in (Comes event stay ∷ past) = raised (came_in past) (length (octets_of event))
+came_in (_ ∷ past) = came_in past
 
 -- the calls of the chat, the oldest first
 abbrev pub talks_in : List Moment → List ChatEvent
@@ -320,28 +334,28 @@ is_cause None c = false
 is_cause (Some other) c = other.number == c.number && other.detail == c.detail
 
 -- An event: a dial that failed, the line's end or a fault, a signal, a post of the table.
-abbrev pub cause_by_event : Event → Option Cause
-cause_by_event Begin = None
-cause_by_event (Dialled link session failed came) = if came then None else Some dial_failed
-cause_by_event (Bytes link session offset octets) = None
-cause_by_event (LineOver link session read.End) = Some line_ended
-cause_by_event (LineOver link session read.Failed) = Some read_failed
-cause_by_event (LineOver link session read.Left) = None
-cause_by_event (Flushed link session sent.All) = None
-cause_by_event (Flushed link session (sent.Failed count)) = Some write_failed
-cause_by_event (Tick now) = None
-cause_by_event (Signal Hup) = Some (signalled 1)
-cause_by_event (Signal Int) = Some (signalled 2)
-cause_by_event (Signal Term) = Some (signalled 3)
-cause_by_event (Signal Usr1) = None
-cause_by_event (Signal Usr2) = None
-cause_by_event (FromTable (Refused stay reason)) = Some (join_refused reason)
-cause_by_event (FromTable (Close stay unit why elapsed live)) = Some (closed_by why)
-cause_by_event (FromTable (Member stay unit live)) = None
-cause_by_event (FromTable (Send protocol information)) = None
-cause_by_event (FromTable (Reject protocol information)) = None
-cause_by_event (FromTable Wake) = None
-cause_by_event (HookOver target job not_started answer) = None
+abbrev pub reason_of_event : Event → Option Cause
+reason_of_event Begin = None
+reason_of_event (Dialled link session failed came) = if came then None else Some dial_failed
+reason_of_event (Bytes link session offset octets) = None
+reason_of_event (LineOver link session read.End) = Some line_ended
+reason_of_event (LineOver link session read.Failed) = Some read_failed
+reason_of_event (LineOver link session read.Left) = None
+reason_of_event (Flushed link session sent.All) = None
+reason_of_event (Flushed link session (sent.Failed count)) = Some write_failed
+reason_of_event (Tick now) = None
+reason_of_event (Signal Hup) = Some (signalled 1)
+reason_of_event (Signal Int) = Some (signalled 2)
+reason_of_event (Signal Term) = Some (signalled 3)
+reason_of_event (Signal Usr1) = None
+reason_of_event (Signal Usr2) = None
+reason_of_event (FromTable (Refused stay reason)) = Some (join_refused reason)
+reason_of_event (FromTable (Close stay unit why elapsed live)) = Some (closed_by why)
+reason_of_event (FromTable (Member stay unit live)) = None
+reason_of_event (FromTable (Send protocol information)) = None
+reason_of_event (FromTable (Reject protocol information)) = None
+reason_of_event (FromTable Wake) = None
+reason_of_event (HookOver target job not_started answer) = None
 
 -- How the chat ended.
 abbrev pub cause_by_chat : ChatNow → Option Cause
@@ -350,10 +364,6 @@ cause_by_chat (Sent octets) = None
 cause_by_chat Done = None
 cause_by_chat TimedOut = Some chat_timed_out
 cause_by_chat (Aborted number) = Some (chat_aborted number)
-
-abbrev pub chat_told : Option ChatScript → List ChatEvent → ChatEvent → ChatNow
-chat_told None calls call = Done
-chat_told (Some script) calls call = answer_after (ChatOf script) calls call
 
 -- How authentication ended.
 abbrev pub cause_by_outcome : AuthNow → Option Cause
@@ -397,8 +407,8 @@ cause_by_lcp terms call calls =
 -- The reason that the newest moment is.
 abbrev pub reason_in : Terms → List Moment → Option Cause
 reason_in terms [] = None
-reason_in terms (Comes event stay ∷ past) = cause_by_event event
-reason_in terms (Talks call ∷ past) = cause_by_chat (chat_told terms.config.script (talks_in past) call)
+reason_in terms (Comes event stay ∷ past) = reason_of_event event
+reason_in terms (Talks call ∷ past) = cause_by_chat (chat_answer terms.config.script (talks_in past) call)
 reason_in terms (Hears octet ∷ past) = None
 reason_in terms (Negotiates call ∷ past) = cause_by_lcp terms call (calls_in past)
 reason_in terms (Proves call ∷ past) = cause_by_outcome (outcome_at terms (Proves call ∷ past))
@@ -511,7 +521,7 @@ time_of (hears packet a) now = now
 time_of (rejects protocol information) now = 0
 
 abbrev pub PhaseAnswers : Terms → Asked → PhaseCall → List Moment → Type 0
-PhaseAnswers terms Nothing_asked call past = (call ≡ waits) × (wait_due terms past ≡ true) × (tick_due terms past ≡ false) × (close_due past ≡ false)
+PhaseAnswers terms Nothing_asked call past = (call ≡ waits) × (wait_due terms past ≡ true) × (tick_due terms past ≡ false)
 PhaseAnswers terms (To_hear packet) call past = ⊥
 PhaseAnswers terms (To_prove protocol packet) call past = call ≡ takes protocol packet terms.secrets
 PhaseAnswers terms (To_post protocol information) call past = ⊥
@@ -530,15 +540,36 @@ has_many terms c marks past = is_cause (Some too_many_marks) c && (nat_le MOST_M
 abbrev pub HasReason : Terms → Cause → ℕ → List Moment → Type 0
 HasReason terms c marks past = (is_none (ended_in past) && (is_cause (reason_in terms past) c || has_many terms c marks past)) ≡ true
 
+-- An event is of this link and session; a piece stands behind the octets that came; a reading is left where the session has its cause; and a post that names a stay names
+-- the present one.
+abbrev pub IsOf : Terms → Event → Option ℕ → List Moment → Type 0
+IsOf terms Begin stay past = ⊤
+IsOf terms (Dialled link session failed came) stay past = (link ≡ terms.link) × (session ≡ terms.session)
+IsOf terms (Bytes link session offset octets) stay past = (link ≡ terms.link) × (session ≡ terms.session) × (offset ≡ came_in past)
+IsOf terms (LineOver link session read.End) stay past = (link ≡ terms.link) × (session ≡ terms.session)
+IsOf terms (LineOver link session read.Failed) stay past = (link ≡ terms.link) × (session ≡ terms.session)
+IsOf terms (LineOver link session read.Left) stay past = (link ≡ terms.link) × (session ≡ terms.session) × (is_some (ended_in past) ≡ true)
+IsOf terms (Flushed link session how) stay past = (link ≡ terms.link) × (session ≡ terms.session)
+IsOf terms (Tick now) stay past = ⊤
+IsOf terms (Signal word) stay past = ⊤
+IsOf terms (FromTable (Member n unit live)) stay past = stay ≡ Some n
+IsOf terms (FromTable (Refused n reason)) stay past = stay ≡ Some n
+IsOf terms (FromTable (Close n unit why elapsed live)) stay past = stay ≡ Some n
+IsOf terms (FromTable (Send protocol information)) stay past = ⊤
+IsOf terms (FromTable (Reject protocol information)) stay past = ⊤
+IsOf terms (FromTable Wake) stay past = ⊤
+IsOf terms (HookOver target job not_started answer) stay past = ⊤
+
 -- Each moment may come where it does: what is asked and due is done before an event or an octet comes.
 abbrev pub MayCome : Terms → Moment → List Moment → Type 0
-MayCome terms (Comes event stay) past = is_done terms past ≡ true
+MayCome terms (Comes event stay) past = (is_done terms past ≡ true) × IsOf terms event stay past
 MayCome terms (Talks call) past = MayTalk terms call.octet past × (call.at ≡ time_in terms past)
 MayCome terms (Hears octet) past = (is_done terms past ≡ true) × (is_framing (listener_in terms past) ≡ true) × (is_now is_piece past ≡ true)
 MayCome terms (Negotiates call) past =
     (has_reason terms past ≡ false) × LcpAnswers terms (asked_in terms past) call.call past × (call.happened.now ≡ time_of call.call (time_in terms past))
-MayCome terms (Proves call) past = (has_reason terms past ≡ false) × PhaseAnswers terms (asked_in terms past) call.call past × (call.now ≡ time_in terms past)
-MayCome terms (Posts protocol information) past = asked_in terms past ≡ To_post protocol information
+MayCome terms (Proves call) past =
+    (has_reason terms past ≡ false) × (close_due past ≡ false) × PhaseAnswers terms (asked_in terms past) call.call past × (call.now ≡ time_in terms past)
+MayCome terms (Posts protocol information) past = (asked_in terms past ≡ To_post protocol information) × (close_due past ≡ false)
 MayCome terms (Ends cause marks) past = HasReason terms cause marks past
 
 abbrev pub InOrder : Terms → List Moment → Type 0
@@ -558,6 +589,8 @@ words_by true = 2
 -- The link has come to this by what happened since its attempt: its time, generator, listener, deframer, map, LCP, phase, counts and cause are what looking back gives,
 -- and each call of LCP is lawful by the calls before it (RFC 1661, sections 4.3 to 4.6).
 pub record Reached (terms : Terms) (s : LinkState) (past : List Moment) : Type 0 where
+  pub link : s.id ≡ terms.link
+  pub session : (control s).session ≡ terms.session
   pub config : s.config ≡ terms.config
   pub wish : s.wish ≡ terms.wish
   pub secrets : s.secrets ≡ terms.secrets
@@ -572,6 +605,8 @@ pub record Reached (terms : Terms) (s : LinkState) (past : List Moment) : Type 0
   pub counts : s.counts ≡ counts_from terms.counts (Frames (stream_in terms past))
   pub cause : (control s).cause ≡ ended_in past
   pub marks : since_then s.log.past ≡ marks_then past
+  pub live : (control s).was_live ≡ was_live_at past
+  pub taken : s.taken ≡ came_in past
   pub order : InOrder terms past
 
 -- And nothing stands undone; a session that nothing has ended has few marks.
@@ -615,7 +650,7 @@ packets_told (Some part) call = (told_at part.setting call part.calls).packets
 
 abbrev pub sent_at : Terms → Moment → List Moment → List (List ℕ)
 sent_at terms (Comes event stay) past = sent_by_event (settings_by (agreed_at terms past)) event stay
-sent_at terms (Talks call) past = sent_by_chat (chat_told terms.config.script (talks_in past) call)
+sent_at terms (Talks call) past = sent_by_chat (chat_answer terms.config.script (talks_in past) call)
 sent_at terms (Hears octet) past = []
 sent_at terms (Negotiates call) past = map (λ packet. encoding (settings_by (agreed_at terms (Negotiates call ∷ past))) LCP (laid_packet packet)) call.happened.packets
 sent_at terms (Proves call) past = map (λ p. encoding (settings_by (agreed_at terms past)) p.protocol (laid_packet p.packet)) (packets_told (proving_in terms past) call)
@@ -651,10 +686,6 @@ octets_in [] = []
 octets_in (Hears octet ∷ past) = octets_in past ++ octet ∷ []
 octets_in (Talks call ∷ past) = octets_in past ++ one_or_none call.octet
 octets_in (_ ∷ past) = octets_in past
-
-abbrev pub octets_of : Event → List ℕ
-octets_of (Bytes link session offset octets) = octets
-octets_of _ = []
 
 -- By one event the session goes on: this event comes, and of the octets of a piece all that come while somebody hears them. What is behind it is over, if it is, by the rules of
 -- a session's end alone.

@@ -53,10 +53,11 @@ cause_of state out = or_else (cause_by_event out.event state out.acts) (cause_to
 
 -- WHAT FOLLOWS FROM OPENED (RFC 1661, section 4.4, This-Layer-Up and This-Layer-Down)
 
--- The agreed map counts from the next octet on, and authentication begins.
+-- its mark, and the agreed map from the next octet on
 abbrev pub open_marked : LinkState → LinkState
 open_marked s = with_map (map_by (agreed s)) (marked (λ time. lcp_open_mark time ((control s).openings + 1)) s)
 
+-- LCP has entered Opened: authentication begins.
 unfoldable pub lcp_entered : LinkState → LinkState
 lcp_entered s = phase_begun (open_marked s)
 

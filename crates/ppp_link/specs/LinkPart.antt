@@ -1,9 +1,10 @@
 -- One event of a link: which are stale, and what the others leave. A stale one comes back, and nothing has changed.
-use Rattle.std.specs.Prelude.{ℕ, ◌+◌, ◌-◌, ◌^◌, ◌≡◌, ◌&&◌, not, min, Bool, true, false, if◌then◌else◌, List, length}
+use Rattle.std.specs.Prelude.{ℕ, ◌≡◌, ◌&&◌, not, Bool, true, false, if◌then◌else◌, List, length}
 use Rattle.ppp_base.specs.declared.hook_target.HookTarget.TheVariants.{Link}
 use Rattle.ppp_dial.specs.declared.call.CallKind.TheVariants.{Start}
 use Rattle.ppp_hooks.specs.HookFacts.{settled, with_end}
 use Rattle.ppp_mark.specs.ScriptLog.{log_ended}
+use Rattle.ppp_outside.specs.Counts.{raised}
 use Rattle.ppp_outside.specs.declared.spawner.ScriptEnd.{ScriptEnd}
 use Rattle.ppp_link.specs.declared.errand.Errand.TheVariants.{Waiting}
 use Rattle.ppp_link.specs.declared.errand.ReadEnd.{ReadEnd}
@@ -46,7 +47,7 @@ begun s = dial_answered (dial_says Start s) s
 
 -- The octets of a piece are counted, and heard by who listens.
 abbrev pub bytes_taken : List ℕ → LinkState → LinkState
-bytes_taken octets s = octets_taken octets (record s { taken = min (s.taken + length octets) (2 ^ 64 - 1) })
+bytes_taken octets s = octets_taken octets (record s { taken = raised s.taken (length octets) })
 
 -- A reading comes back at the line's end, after a fault, or because it was left.
 abbrev pub reading_back : ReadEnd → LinkState → LinkState

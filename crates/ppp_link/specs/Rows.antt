@@ -121,14 +121,14 @@ abbrev pub rx : ℕ → List ℕ → LinkState → LinkState
 rx protocol information s = comes (encoding plain_settings protocol information) s
 
 -- The line comes. The peer asks for nothing, and acknowledges our request.
-abbrev pub with_line : LinkState → LinkState
-with_line s = run (Begin ∷ Dialled 1 1 0 true ∷ []) s
+abbrev pub dialled : LinkState → LinkState
+dialled s = run (Begin ∷ Dialled 1 1 0 true ∷ []) s
 
 abbrev pub our_options : List ℕ
 our_options = 2 ∷ 6 ∷ 0 ∷ 0 ∷ 0 ∷ 0 ∷ 7 ∷ 2 ∷ 8 ∷ 2 ∷ []
 
 abbrev pub opened : LinkState → LinkState
-opened s = rx 0xc021 (2 ∷ 1 ∷ 0 ∷ 14 ∷ our_options) (rx 0xc021 (1 ∷ 1 ∷ 0 ∷ 4 ∷ []) (with_line s))
+opened s = rx 0xc021 (2 ∷ 1 ∷ 0 ∷ 14 ∷ our_options) (rx 0xc021 (1 ∷ 1 ∷ 0 ∷ 4 ∷ []) (dialled s))
 
 -- what waits for the line is written
 abbrev pub written : LinkState → LinkState
@@ -161,4 +161,4 @@ script_ends job s = step (HookOver (Link 1) job 0 (Exit 0)) s
 
 -- Authentication closes and opens again while auth-up of the first opening runs.
 abbrev pub reopened : Limits → LinkState
-reopened limits = proved 2 (proved 1 (with_line (asking_link limits)))
+reopened limits = proved 2 (proved 1 (dialled (asking_link limits)))

@@ -11,7 +11,7 @@ ghost use Rattle.ppp_link.specs.declared.errand.SentEnd.TheVariants.{All};
 ghost use Rattle.ppp_link.specs.FrameCounts.{no_counts};
 ghost use Rattle.ppp_link.specs.LinkEvent.{Begin, Dialled, LineOver, Flushed, Signal, Tick};
 ghost use Rattle.ppp_link.specs.LinkState.{control};
-ghost use Rattle.ppp_link.specs.Rows.{aborts_at_once, comes, asking_link, proved, reopened, script_ends, fails, link_of, marks, nomagic, opened, run, rx, step, usual, with_line, writing_taken, written};
+ghost use Rattle.ppp_link.specs.Rows.{aborts_at_once, comes, asking_link, proved, reopened, script_ends, fails, link_of, marks, nomagic, opened, run, rx, step, usual, dialled, writing_taken, written};
 
 /// The dial fails, with a signal to stop before it and without one.
 pub fn a_dial_that_fails()
@@ -31,7 +31,7 @@ pub fn a_line_that_ends()
 
 /// What LCP's first request is on the line.
 pub fn a_first_request()
-    ensures { (limits : Limits) → (with_line (link_of limits nomagic)).out.waiting
+    ensures { (limits : Limits) → (dialled (link_of limits nomagic)).out.waiting
         ≡ 0x7e ∷ 0xff ∷ 0x7d ∷ 0x23 ∷ 0xc0 ∷ 0x21 ∷ 0x7d ∷ 0x21 ∷ 0x7d ∷ 0x21 ∷ 0x7d ∷ 0x20 ∷ 0x7d ∷ 0x2e ∷ 0x7d ∷ 0x22 ∷ 0x7d ∷ 0x26 ∷ 0x7d ∷ 0x20 ∷ 0x7d ∷ 0x20
         ∷ 0x7d ∷ 0x20 ∷ 0x7d ∷ 0x20 ∷ 0x7d ∷ 0x27 ∷ 0x7d ∷ 0x22 ∷ 0x7d ∷ 0x28 ∷ 0x7d ∷ 0x22 ∷ 0x70 ∷ 0x34 ∷ 0x7e ∷ [] }
 {}
@@ -54,7 +54,7 @@ pub fn two_failures()
 
 /// Authentication closes and opens again while auth-up of the first opening runs: nothing is started, and directly behind each end stands what is due.
 pub fn an_opening_while_a_script_runs()
-    ensures proved { (limits : Limits) → marks (proved 1 (with_line (asking_link limits)))
+    ensures proved { (limits : Limits) → marks (proved 1 (dialled (asking_link limits)))
         ≡ mark 0 1 0 0 1 ∷ mark 0 2 0 0 1 ∷ mark 0 3 0 0 1 ∷ mark 0 5 0 0 1 ∷ mark 0 7 1 0 1 ∷ mark 0 9 0 0 1 ∷ [] }
     ensures lives { (limits : Limits) → marks (script_ends 2 (script_ends 1 (reopened limits)))
         ≡ mark 0 1 0 0 1 ∷ mark 0 2 0 0 1 ∷ mark 0 3 0 0 1 ∷ mark 0 5 0 0 1 ∷ mark 0 7 1 0 1 ∷ mark 0 9 0 0 1
@@ -65,8 +65,8 @@ pub fn an_opening_while_a_script_runs()
 
 /// More octets than a frame has, and flags alone.
 pub fn octets_that_are_no_frames()
-    ensures flags { (limits : Limits) → (comes (replicate 1024 0x7e) (with_line (link_of limits nomagic))).counts ≡ no_counts }
-    ensures long { (limits : Limits) → (comes (replicate 509 0x41 ++ 0x7e ∷ []) (comes (0x7e ∷ replicate 1000 0x41) (with_line (link_of limits nomagic)))).counts
+    ensures flags { (limits : Limits) → (comes (replicate 1024 0x7e) (dialled (link_of limits nomagic))).counts ≡ no_counts }
+    ensures long { (limits : Limits) → (comes (replicate 509 0x41 ++ 0x7e ∷ []) (comes (0x7e ∷ replicate 1000 0x41) (dialled (link_of limits nomagic)))).counts
         ≡ record no_counts { too_long = 1 } }
-    ensures flag_marks { (limits : Limits) → marks (comes (replicate 1024 0x7e) (with_line (link_of limits nomagic))) ≡ mark 0 1 0 0 1 ∷ mark 0 2 0 0 1 ∷ [] }
+    ensures flag_marks { (limits : Limits) → marks (comes (replicate 1024 0x7e) (dialled (link_of limits nomagic))) ≡ mark 0 1 0 0 1 ∷ mark 0 2 0 0 1 ∷ [] }
 {}

@@ -34,11 +34,11 @@ returns-clause-dials c limits = record {
     done = refl;
     few = λ first. refl;
     reached = record {
-      config = refl; wish = refl; secrets = refl; time = refl; words = refl; listener = refl;
+      link = refl; session = refl; config = refl; wish = refl; secrets = refl; time = refl; words = refl; listener = refl;
       deframer = record { octets_are = refl; over_is = refl; escaping_is = refl };
       map = refl; lcp = refl;
       lawful = tt;
-      auth = refl; counts = refl; cause = refl; marks = refl;
+      auth = refl; counts = refl; cause = refl; marks = refl; live = refl; taken = refl;
       order = tt;
     };
   }
@@ -49,12 +49,12 @@ returns-clause-goes_on c limits = record { reached = looked_after (happened (Dia
     done = refl;
     few = λ first. refl;
     reached = record {
-      config = refl; wish = refl; secrets = refl; time = refl; words = refl; listener = refl;
+      link = refl; session = refl; config = refl; wish = refl; secrets = refl; time = refl; words = refl; listener = refl;
       deframer = record { octets_are = refl; over_is = refl; escaping_is = refl };
       map = refl; lcp = refl;
       lawful = (record { event = refl; acts = refl; packets = refl }, (record { event = refl; acts = refl; packets = refl }, tt));
-      auth = refl; counts = refl; cause = refl; marks = refl;
-      order = ((refl, (refl, refl), refl), ((refl, (refl, refl), refl), (refl, tt)));
+      auth = refl; counts = refl; cause = refl; marks = refl; live = refl; taken = refl;
+      order = ((refl, (refl, refl), refl), ((refl, (refl, refl), refl), ((refl, (refl, refl)), tt)));
     };
   }; events_are = refl; unheard = []; octets_are = refl; all = λ heard. refl; ups = refl; outs = refl; new_is = refl }
 
@@ -64,12 +64,12 @@ returns-clause-begun c limits = record {
     done = refl;
     few = λ first. refl;
     reached = record {
-      config = refl; wish = refl; secrets = refl; time = refl; words = refl; listener = refl;
+      link = refl; session = refl; config = refl; wish = refl; secrets = refl; time = refl; words = refl; listener = refl;
       deframer = record { octets_are = refl; over_is = refl; escaping_is = refl };
       map = refl; lcp = refl;
       lawful = (record { event = refl; acts = refl; packets = refl }, (record { event = refl; acts = refl; packets = refl }, tt));
-      auth = refl; counts = refl; cause = refl; marks = refl;
-      order = ((refl, (refl, refl), refl), ((refl, (refl, refl), refl), (refl, tt)));
+      auth = refl; counts = refl; cause = refl; marks = refl; live = refl; taken = refl;
+      order = ((refl, (refl, refl), refl), ((refl, (refl, refl), refl), ((refl, (refl, refl)), tt)));
     };
   }
 
@@ -79,12 +79,12 @@ returns-clause-stopped c limits = record {
     done = refl;
     few = λ first. absurd (false≢true first);
     reached = record {
-      config = refl; wish = refl; secrets = refl; time = refl; words = refl; listener = refl;
+      link = refl; session = refl; config = refl; wish = refl; secrets = refl; time = refl; words = refl; listener = refl;
       deframer = record { octets_are = refl; over_is = refl; escaping_is = refl };
       map = refl; lcp = refl;
       lawful = (record { event = refl; acts = refl; packets = refl }, (record { event = refl; acts = refl; packets = refl }, (record { event = refl; acts = refl; packets = refl }, tt)));
-      auth = refl; counts = refl; cause = refl; marks = refl;
-      order = ((refl, (refl, refl), refl), (refl, (refl, ((refl, (refl, refl), refl), ((refl, (refl, refl), refl), (refl, tt))))));
+      auth = refl; counts = refl; cause = refl; marks = refl; live = refl; taken = refl;
+      order = ((refl, (refl, refl), refl), (refl, ((refl, tt), ((refl, (refl, refl), refl), ((refl, (refl, refl), refl), ((refl, (refl, refl)), tt))))));
     };
   }
 
@@ -94,11 +94,11 @@ returns-clause-asked c limits = record {
     done = refl;
     few = λ first. refl;
     reached = record {
-      config = refl; wish = refl; secrets = refl; time = refl; words = refl; listener = refl;
+      link = refl; session = refl; config = refl; wish = refl; secrets = refl; time = refl; words = refl; listener = refl;
       deframer = record { octets_are = refl; over_is = refl; escaping_is = refl };
       map = refl; lcp = refl;
       lawful = (record { event = refl; acts = refl; packets = refl }, (record { event = refl; acts = refl; packets = refl }, (record { event = refl; acts = refl; packets = refl }, tt)));
-      auth = refl; counts = refl; cause = refl; marks = refl;
-      order = ((refl, refl, refl), ((refl, refl, refl), ((refl, refl, refl), ((refl, refl, refl), ((refl, refl, refl), ((refl, refl, refl), ((refl, refl, refl), ((refl, refl, refl), ((refl, refl, refl), ((refl, refl, refl), ((refl, refl, refl), ((refl, refl, refl), ((refl, refl, refl), ((refl, refl, refl), ((refl, refl, refl), ((refl, refl, refl), ((refl, refl, refl), ((refl, refl, refl), (refl, ((refl, (refl, refl), refl), ((refl, (refl, refl), refl), (refl, tt))))))))))))))))))))));
+      auth = refl; counts = refl; cause = refl; marks = refl; live = refl; taken = refl;
+      order = ((refl, refl, refl), ((refl, refl, refl), ((refl, refl, refl), ((refl, refl, refl), ((refl, refl, refl), ((refl, refl, refl), ((refl, refl, refl), ((refl, refl, refl), ((refl, refl, refl), ((refl, refl, refl), ((refl, refl, refl), ((refl, refl, refl), ((refl, refl, refl), ((refl, refl, refl), ((refl, refl, refl), ((refl, refl, refl), ((refl, refl, refl), ((refl, refl, refl), ((refl, (refl, refl, refl)), ((refl, (refl, refl), refl), ((refl, (refl, refl), refl), ((refl, (refl, refl)), tt))))))))))))))))))))));
     };
   }
