@@ -1,2 +1,3 @@
 mod UnchangedLemmas
 mod CountLemmas
+mod PhaseLemmas

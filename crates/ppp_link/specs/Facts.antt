@@ -15,6 +15,7 @@ use Rattle.ppp_timer.specs.Due.{has_come}
 use Rattle.ppp_link.specs.declared.limits.TheConstants.{MOST_MARKS}
 use Rattle.ppp_link.specs.Dialling.{DialsLawfully, dial_so_far}
 use Rattle.ppp_link.specs.LinkEvent.{Event, Begin, Signal, FromTable}
+use Rattle.ppp_link.specs.LinkPart.{is_nothing}
 use Rattle.ppp_link.specs.LinkState.{AuthPart, LinkState, agreed, control, is_absent, is_busy, is_lasting, is_network, is_open, has_passed, outcome_of}
 use Rattle.ppp_link.specs.Marks.{Doing, New, Dials, HasLine, IsOver, Holds, Waits, HasFinished, hold_by, status_by}
 use Rattle.ppp_link.specs.RingAfter.{has_control, is_control}
@@ -132,4 +133,4 @@ pub record MovesBy (event : Event) (old new : LinkState) : Type 0 where
   pub hangs : event ≡ Signal Hup → is_some (hold_by (control old).doing) ≡ true → (control new).doing ≢ (control old).doing
   pub stops : is_stop event ≡ true → ((control new).stopped || is_some (status_by (control new).doing)) ≡ true
   pub finishes : is_stop event ≡ true → is_lasting old ≡ false → is_some (status_by (control new).doing) ≡ true
-  pub asked : is_network new ≡ true → has_control new.up.waiting ≡ false → is_some (control new).stay ≡ true
+  pub asked : is_nothing event old ≡ false → is_network new ≡ true → has_control new.up.waiting ≡ false → is_some (control new).stay ≡ true

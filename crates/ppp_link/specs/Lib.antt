@@ -32,3 +32,5 @@ pub mod Rows
 pub mod ErrandValues
 pub mod Reading
 pub mod WorkedHistory
+pub mod View
+pub mod OneLine

@@ -63,6 +63,14 @@ treatment Networking OfOtherAuth = Discarded
 treatment Networking OfTable = ToTable
 treatment Networking Unknown = ToReject
 
+-- what is done in the network phase alone
+abbrev pub is_of_network : Treatment → Bool
+is_of_network ToLcp = false
+is_of_network ToAuth = false
+is_of_network ToTable = true
+is_of_network ToReject = true
+is_of_network Discarded = false
+
 abbrev pub Phase : LinkPhase → Option Agreed → ℕ → Treatment
 Phase phase agreed protocol = treatment phase (kind_of agreed protocol)
 

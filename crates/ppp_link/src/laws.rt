@@ -1,6 +1,10 @@
 //! What follows from the definitions, for a reader.
 
-ghost use Rattle.std.specs.Prelude.{[], ◌∷◌, true};
+ghost use Rattle.std.specs.Prelude.{◌≡◌, ℕ, Option, [], ◌∷◌, true, false, if◌then◌else◌};
+ghost use Rattle.ppp_base.specs.declared.protocol.TheConstants.{IP, MULTILINK, IPCP, LCP, PAP, CHAP};
+ghost use Rattle.ppp_packet.specs.declared.agreed.Agreed.{Agreed};
+ghost use Rattle.ppp_lcp.specs.Session.{is_agreed};
+ghost use Rattle.ppp_link.specs.Phase.{LinkPhase, Networking, Phase, ToLcp, ToTable, ToReject, Discarded, has_pieces, is_of_network};
 ghost use Rattle.ppp_base.specs.declared.signal_word.SignalWord.TheVariants.{Term};
 ghost use Rattle.ppp_fsm.specs.declared.fsm.Limits.{Limits};
 ghost use Rattle.ppp_link.specs.History.{GoesOn, HearsAll, terms_of};
@@ -26,4 +30,15 @@ pub fn sessions_look_back()
 /// time, no other event does either, and nothing changes what is the link's own for good.
 pub fn counts_are_kept()
     ensures { (event : Event) (s : LinkState) → CountsKept event s (after event s) }
+{}
+
+/// The table of phase and protocol in sentences: what goes to the table, or is rejected, does so in the network phase
+/// alone; LCP is heard in each phase; what wasn't agreed on of authentication is discarded in each.
+pub fn the_table_of_phases()
+    ensures network { (phase : LinkPhase) (agreed : Option Agreed) (protocol : ℕ) → is_of_network (Phase phase agreed protocol) ≡ true → phase ≡ Networking }
+    ensures lcp { (phase : LinkPhase) (agreed : Option Agreed) → Phase phase agreed LCP ≡ ToLcp }
+    ensures pap { (phase : LinkPhase) (agreed : Option Agreed) → is_agreed PAP agreed ≡ false → Phase phase agreed PAP ≡ Discarded }
+    ensures chap { (phase : LinkPhase) (agreed : Option Agreed) → is_agreed CHAP agreed ≡ false → Phase phase agreed CHAP ≡ Discarded }
+    ensures datagrams { (agreed : Option Agreed) → (Phase Networking agreed IP ≡ ToTable) × (Phase Networking agreed IPCP ≡ ToTable) }
+    ensures pieces { (agreed : Option Agreed) → Phase Networking agreed MULTILINK ≡ (if has_pieces agreed then ToTable else ToReject) }
 {}
