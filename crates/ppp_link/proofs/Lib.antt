@@ -1,3 +1,4 @@
 mod UnchangedLemmas
 mod CountLemmas
 mod PhaseLemmas
+mod OneLineLemmas

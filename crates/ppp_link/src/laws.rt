@@ -1,6 +1,6 @@
 //! What follows from the definitions, for a reader.
 
-ghost use Rattle.std.specs.Prelude.{◌≡◌, ℕ, Option, [], ◌∷◌, true, false, if◌then◌else◌};
+ghost use Rattle.std.specs.Prelude.{◌≡◌, ℕ, Option, List, [], ◌∷◌, ◌++◌, true, false, if◌then◌else◌};
 ghost use Rattle.ppp_base.specs.declared.protocol.TheConstants.{IP, MULTILINK, IPCP, LCP, PAP, CHAP};
 ghost use Rattle.ppp_packet.specs.declared.agreed.Agreed.{Agreed};
 ghost use Rattle.ppp_lcp.specs.Session.{is_agreed};
@@ -12,6 +12,9 @@ ghost use Rattle.ppp_link.specs.Kept.{CountsKept};
 ghost use Rattle.ppp_link.specs.LinkState.{LinkState};
 ghost use Rattle.ppp_link.specs.LinkEvent.{Event, Begin, Dialled, Signal};
 ghost use Rattle.ppp_link.specs.LinkPart.{after};
+ghost use Rattle.ppp_outside.specs.declared.line_in.LineAnswer.{LineAnswer};
+ghost use Rattle.ppp_link.specs.ErrandValues.{PieceValue};
+ghost use Rattle.ppp_link.specs.OneLine.{AreOfLine, given_by, taken_of};
 ghost use Rattle.ppp_link.specs.Rows.{link_of, nomagic, rx, step, dialled};
 ghost use Rattle.ppp_link.specs.WorkedHistory.{asked, begun, stopped};
 
@@ -41,4 +44,11 @@ pub fn the_table_of_phases()
     ensures chap { (phase : LinkPhase) (agreed : Option Agreed) → is_agreed CHAP agreed ≡ false → Phase phase agreed CHAP ≡ Discarded }
     ensures datagrams { (agreed : Option Agreed) → (Phase Networking agreed IP ≡ ToTable) × (Phase Networking agreed IPCP ≡ ToTable) }
     ensures pieces { (agreed : Option Agreed) → Phase Networking agreed MULTILINK ≡ (if has_pieces agreed then ToTable else ToReject) }
+{}
+
+/// Of pieces of one line, each with its place, what is taken at its place alone is a front of what the line gave: its
+/// octets in order, each once.
+pub fn a_front_of_the_line()
+    ensures { (answers : List LineAnswer) (pieces : List PieceValue) → AreOfLine (given_by answers) pieces
+        → (rest : List ℕ) × (given_by answers ≡ taken_of 0 pieces ++ rest) }
 {}
