@@ -25,8 +25,7 @@ use Rattle.ppp_link.specs.Marks.{hold_by, status_by}
 use Rattle.ppp_link.specs.Sessions.{at_end, dial_answered}
 use Rattle.ppp_link.specs.Signals.{hung_up, hung_up_by, signal_marked, signal_taken, stopped, stopped_by, stopping}
 use Rattle.ppp_link.specs.Ticking.{moments_of, ticked, timers_treated, with_time}
-use Rattle.ppp_link.specs.Unchanged.{Unchanged}
-use Rattle.ppp_link.proofs.UnchangedLemmas.{chat-ticked, dial-answered, dial-come, due-signals, ended-by, line-lost, looked-after, octets-taken, post-taken, session-over, slots-treated, then, unchanged}
+use Rattle.ppp_link.proofs.UnchangedLemmas.{Unchanged, chat-ticked, dial-answered, dial-come, due-signals, ended-by, line-lost, looked-after, octets-taken, post-taken, session-over, slots-treated, then, unchanged}
 
 -- the same as Unchanged, but for the time and for signals
 pub record Goes (most : ℕ) (now : ℕ) (old new : LinkState) : Type 0 where

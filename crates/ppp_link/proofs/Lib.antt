@@ -2,3 +2,4 @@ mod UnchangedLemmas
 mod CountLemmas
 mod PhaseLemmas
 mod OneLineLemmas
+mod SoundLemmas

@@ -56,7 +56,16 @@ use Rattle.ppp_link.specs.Posts.{live_if, made_member, member_marked, member_if,
 use Rattle.ppp_link.specs.Sending.{frame_sent, octets_sent, packets_sent, phase_sent}
 use Rattle.ppp_link.specs.Sessions.{attempted, is_over, dial_answered, dial_come, dial_told_over, line_come, line_come_if, line_gone, line_gone_if, line_lost, with_dial_back, with_failure, with_line, with_line_ended, over_if, over_marked, session_over}
 use Rattle.ppp_link.specs.Ticking.{moments_of, slots_treated, treated as slot_treated, treated_if}
-use Rattle.ppp_link.specs.Unchanged.{Unchanged}
+
+-- what is the link's own for good, its time, and how many signals it marked
+pub record Unchanged (old new : LinkState) : Type 0 where
+  pub id : new.id ≡ old.id
+  pub config : new.config ≡ old.config
+  pub wish : new.wish ≡ old.wish
+  pub secrets : new.secrets ≡ old.secrets
+  pub time : new.time ≡ old.time
+  pub limit : new.log.limit ≡ old.log.limit
+  pub signals : signals_in new.log.past ≡ signals_in old.log.past
 
 pub unchanged : (s : LinkState) → Unchanged s s
 unchanged s = record { id = refl; config = refl; wish = refl; secrets = refl; time = refl; limit = refl; signals = refl }

@@ -1,5 +1,5 @@
 -- What is true of a link between two steps, beside what its rules say of each.
-use Rattle.std.specs.Prelude.{ℕ, ◌≡◌, ◌≢◌, ◌+◌, ◌<◌, ◌≤◌, ◌&&◌, ◌||◌, not, Bool, true, false, Option, None, Some, is_some, List, [], ◌∷◌, ⊤, IfSome, filter, Contains}
+use Rattle.std.specs.Prelude.{ℕ, ◌≡◌, ◌≢◌, ◌+◌, ◌<◌, ◌≤◌, ◌&&◌, ◌||◌, not, Bool, true, false, Option, None, Some, is_some, List, [], ◌∷◌, ⊤, IfSome, filter}
 use Rattle.ppp_auth.specs.Outcome.{peer_passed}
 use Rattle.ppp_auth.specs.Phase.{name_of}
 use Rattle.ppp_auth.specs.declared.outcome.AuthNow.TheVariants.{Passed}
@@ -20,7 +20,7 @@ use Rattle.ppp_link.specs.LinkState.{AuthPart, LinkState, agreed, control, is_ab
 use Rattle.ppp_link.specs.Marks.{Doing, New, Dials, HasLine, IsOver, Holds, Waits, HasFinished, hold_by, status_by}
 use Rattle.ppp_link.specs.RingAfter.{has_control, is_control}
 use Rattle.ppp_link.specs.Sessions.{is_over}
-use Rattle.ppp_link.specs.UpValue.{JoinValue, UpValue, Asks, Leaves}
+use Rattle.ppp_link.specs.UpValue.{JoinValue, UpValue, Asks, Hands, Leaves}
 use Rattle.ppp_link.specs.Wishes.{IsWish, script_args}
 
 -- SCRIPTS (pppd(8), "auth-up", "auth-down")
@@ -91,12 +91,21 @@ abbrev pub peer_of : Option AuthPart → Option (List ℕ)
 peer_of None = None
 peer_of (Some part) = name_of (peer_passed part.setting.peer_proves part.setting part.calls)
 
--- The Join that waits for the present stay says who has passed and what both ends agreed on; the opening that is open has that peer's arguments.
+-- The Join of the present stay says who has passed and what both ends agreed on.
+pub record JoinTells (s : LinkState) (join : JoinValue) : Type 0 where
+  pub who : outcome_of s.auth ≡ Passed join.peer join.allow
+  pub terms : (a : Agreed) × (agreed s ≡ Some a) × (join.disc ≡ a.disc) × (join.mrru ≡ a.mrru) × (join.mru ≡ a.peer_mru)
+
+abbrev pub JoinsTell : LinkState → List UpValue → Type 0
+JoinsTell s [] = ⊤
+JoinsTell s (Asks join ∷ posts) = ((control s).stay ≡ Some join.stay → JoinTells s join) × JoinsTell s posts
+JoinsTell s (Hands protocol information ∷ posts) = JoinsTell s posts
+JoinsTell s (Leaves stay ∷ posts) = JoinsTell s posts
+
+-- And the opening that is open has that peer's arguments.
 pub record StayTells (s : LinkState) : Type 0 where
   pub controls : IsOneStay (controls_in s.up.waiting)
-  pub who : (join : JoinValue) → Contains s.up.waiting (Asks join) → (control s).stay ≡ Some join.stay → outcome_of s.auth ≡ Passed join.peer join.allow
-  pub terms : (join : JoinValue) → Contains s.up.waiting (Asks join) → (control s).stay ≡ Some join.stay
-      → (a : Agreed) × (agreed s ≡ Some a) × (join.disc ≡ a.disc) × (join.mrru ≡ a.mrru) × (join.mru ≡ a.peer_mru)
+  pub joins : JoinsTell s s.up.waiting
   pub args : IfSome s.scripts.now_open (λ (o : Opening). (peer : List ℕ) × (peer_of s.auth ≡ Some peer) × (o.args ≡ script_args s.id s.config peer))
 
 -- BETWEEN TWO STEPS

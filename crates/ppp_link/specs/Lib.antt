@@ -25,7 +25,6 @@ pub mod LinkEvent
 pub mod LinkPart
 pub mod History
 pub mod Kept
-pub mod Unchanged
 pub mod Facts
 pub mod NewLink
 pub mod Rows

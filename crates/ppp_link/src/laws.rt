@@ -1,6 +1,6 @@
 //! What follows from the definitions, for a reader.
 
-ghost use Rattle.std.specs.Prelude.{◌≡◌, ℕ, Option, List, [], ◌∷◌, ◌++◌, true, false, if◌then◌else◌};
+ghost use Rattle.std.specs.Prelude.{◌≡◌, ℕ, Bool, Option, List, [], ◌∷◌, ◌++◌, true, false, if◌then◌else◌};
 ghost use Rattle.ppp_base.specs.declared.protocol.TheConstants.{IP, MULTILINK, IPCP, LCP, PAP, CHAP};
 ghost use Rattle.ppp_packet.specs.declared.agreed.Agreed.{Agreed};
 ghost use Rattle.ppp_lcp.specs.Session.{is_agreed};
@@ -11,7 +11,13 @@ ghost use Rattle.ppp_link.specs.History.{GoesOn, HearsAll, terms_of};
 ghost use Rattle.ppp_link.specs.Kept.{CountsKept};
 ghost use Rattle.ppp_link.specs.LinkState.{LinkState};
 ghost use Rattle.ppp_link.specs.LinkEvent.{Event, Begin, Dialled, Signal};
-ghost use Rattle.ppp_link.specs.LinkPart.{after};
+ghost use Rattle.ppp_lcp.specs.declared.wish.LcpWish.{LcpWish};
+ghost use Rattle.ppp_secrets.specs.declared.secrets.SecretsPair.{SecretsPair};
+ghost use Rattle.ppp_option_words.specs.LinkValues.{LinkValues};
+ghost use Rattle.ppp_link.specs.Facts.{IsSound, MovesBy};
+ghost use Rattle.ppp_link.specs.LinkPart.{LinkPart, after, after_if, is_present};
+ghost use Rattle.ppp_link.specs.NewLink.{new_link};
+ghost use Rattle.ppp_link.specs.Wishes.{IsWish};
 ghost use Rattle.ppp_outside.specs.declared.line_in.LineAnswer.{LineAnswer};
 ghost use Rattle.ppp_link.specs.ErrandValues.{PieceValue};
 ghost use Rattle.ppp_link.specs.OneLine.{AreOfLine, given_by, taken_of};
@@ -51,4 +57,16 @@ pub fn the_table_of_phases()
 pub fn a_front_of_the_line()
     ensures { (answers : List LineAnswer) (pieces : List PieceValue) → AreOfLine (given_by answers) pieces
         → (rest : List ℕ) × (given_by answers ≡ taken_of 0 pieces ++ rest) }
+{}
+
+/// A link that has just been made is what a link is between two steps, and it begins by Begin.
+pub fn links_are_sound()
+    ensures new { (id seed limit : ℕ) (config : LinkValues) (wish : LcpWish) (secrets : SecretsPair) → IsWish config wish → IsSound (new_link id config wish secrets seed limit) }
+    ensures begins { (limits : Limits) → MovesBy Begin (link_of limits nomagic) (after Begin (link_of limits nomagic)) }
+{}
+
+/// The rules leave no choice: of each event there is one outcome.
+pub fn one_outcome()
+    ensures some { (old : LinkState) (event : Event) → LinkPart old event (after_if (is_present event old) event old) (is_present event old) }
+    ensures one { (old new other : LinkState) (event : Event) (taken also : Bool) → LinkPart old event new taken → LinkPart old event other also → (new ≡ other) × (taken ≡ also) }
 {}

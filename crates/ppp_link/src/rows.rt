@@ -10,7 +10,8 @@ ghost use Rattle.ppp_link.specs.declared.errand.ReadEnd.TheVariants.{End};
 ghost use Rattle.ppp_link.specs.declared.errand.SentEnd.TheVariants.{All};
 ghost use Rattle.ppp_link.specs.FrameCounts.{no_counts};
 ghost use Rattle.ppp_link.specs.LinkEvent.{Begin, Dialled, LineOver, Flushed, Signal, Tick};
-ghost use Rattle.ppp_link.specs.LinkState.{control};
+ghost use Rattle.ppp_link.specs.CauseStatus.{StatusOf};
+ghost use Rattle.ppp_link.specs.Errands.{octets_given, with_post_taken};
 ghost use Rattle.ppp_link.specs.Rows.{aborts_at_once, comes, asking_link, proved, reopened, script_ends, fails, link_of, marks, nomagic, opened, run, rx, step, usual, dialled, writing_taken, written};
 
 /// The dial fails, with a signal to stop before it and without one.
@@ -19,6 +20,7 @@ pub fn a_dial_that_fails()
         ≡ mark 0 1 0 0 1 ∷ mark 0 15 1 0 1 ∷ mark 0 16 0 0 1 ∷ mark 0 19 7 0 0 ∷ [] }
     ensures stopped { (limits : Limits) → marks (run (Begin ∷ Signal Term ∷ Dialled 1 1 0 true ∷ []) (link_of limits usual))
         ≡ mark 0 1 0 0 1 ∷ mark 0 14 3 0 0 ∷ mark 0 15 11 3 1 ∷ mark 0 16 0 0 1 ∷ mark 0 19 5 0 0 ∷ [] }
+    ensures status { (limits : Limits) → StatusOf (run (Begin ∷ Dialled 1 1 0 false ∷ []) (link_of limits usual)).log.past ≡ Some 7 }
     ensures before { (limits : Limits) → marks (run (Signal Term ∷ Begin ∷ []) (link_of limits usual)) ≡ mark 0 14 3 0 0 ∷ mark 0 19 5 0 0 ∷ [] }
 {}
 
@@ -31,7 +33,7 @@ pub fn a_line_that_ends()
 
 /// What LCP's first request is on the line.
 pub fn a_first_request()
-    ensures { (limits : Limits) → (dialled (link_of limits nomagic)).out.waiting
+    ensures { (limits : Limits) → octets_given (dialled (link_of limits nomagic))
         ≡ 0x7e ∷ 0xff ∷ 0x7d ∷ 0x23 ∷ 0xc0 ∷ 0x21 ∷ 0x7d ∷ 0x21 ∷ 0x7d ∷ 0x21 ∷ 0x7d ∷ 0x20 ∷ 0x7d ∷ 0x2e ∷ 0x7d ∷ 0x22 ∷ 0x7d ∷ 0x26 ∷ 0x7d ∷ 0x20 ∷ 0x7d ∷ 0x20
         ∷ 0x7d ∷ 0x20 ∷ 0x7d ∷ 0x20 ∷ 0x7d ∷ 0x27 ∷ 0x7d ∷ 0x22 ∷ 0x7d ∷ 0x28 ∷ 0x7d ∷ 0x22 ∷ 0x70 ∷ 0x34 ∷ 0x7e ∷ [] }
 {}
@@ -39,6 +41,7 @@ pub fn a_first_request()
 /// In the network phase a frame of a protocol that isn't known is rejected, with the second identifier.
 pub fn a_protocol_that_is_rejected()
     ensures phase { (limits : Limits) → marks (opened (link_of limits nomagic)) ≡ mark 0 1 0 0 1 ∷ mark 0 2 0 0 1 ∷ mark 0 3 0 0 1 ∷ mark 0 9 0 0 1 ∷ [] }
+    ensures asks { (limits : Limits) → (with_post_taken (opened (link_of limits nomagic))).up.waiting ≡ [] }
     ensures sent { (limits : Limits) → (rx 0x80fd (1 ∷ 1 ∷ 0 ∷ 4 ∷ []) (written (opened (link_of limits nomagic)))).out.waiting
         ≡ encoding plain_settings 0xc021 (8 ∷ 2 ∷ 0 ∷ 10 ∷ 0x80 ∷ 0xfd ∷ 1 ∷ 1 ∷ 0 ∷ 4 ∷ []) }
 {}

@@ -1,5 +1,6 @@
 -- Each life computes.
 use Rattle.std.proofs.Common.{refl}
+use Rattle.ppp_secrets.specs.Lookup.{line_for}
 use Rattle.ppp_fsm.specs.Fsm.{acts_of, after}
 use Rattle.ppp_packet.specs.OptionList.{items_of, read_options}
 use Rattle.ppp_packet.specs.PacketOf.{packet_in}
@@ -22,13 +23,17 @@ use Rattle.ppp_link.specs.Sending.{frame_sent}
 use Rattle.ppp_link.proofs.rows.a_dial_that_fails.Goals as goal
 
 pub returns-clause-alone : goal.returns-clause-alone
-unfolding acts_of after items_of read_options packet_in answer_to Asked word_of skipped body fcs_octets with_fcs escaped flagged enclosed bits number plus zeros divisor bring_down remainder with_first_complemented Residue fed heard_at after_event looked_after frame_taken link_opened chat_called octet_taken phase_called phase_begun join_tried caused lcp_left lcp_closed ended_by lcp_answer lcp_entered answered lcp_called protocol_rejected attempted line_come line_lost session_over ticked signal_taken post_taken frame_sent
+unfolding line_for acts_of after items_of read_options packet_in answer_to Asked word_of skipped body fcs_octets with_fcs escaped flagged enclosed bits number plus zeros divisor bring_down remainder with_first_complemented Residue fed heard_at after_event looked_after frame_taken link_opened chat_called octet_taken phase_called phase_begun join_tried caused lcp_left lcp_closed ended_by lcp_answer lcp_entered answered lcp_called protocol_rejected attempted line_come line_lost session_over ticked signal_taken post_taken frame_sent
 returns-clause-alone c limits = refl
 
 pub returns-clause-stopped : goal.returns-clause-stopped
-unfolding acts_of after items_of read_options packet_in answer_to Asked word_of skipped body fcs_octets with_fcs escaped flagged enclosed bits number plus zeros divisor bring_down remainder with_first_complemented Residue fed heard_at after_event looked_after frame_taken link_opened chat_called octet_taken phase_called phase_begun join_tried caused lcp_left lcp_closed ended_by lcp_answer lcp_entered answered lcp_called protocol_rejected attempted line_come line_lost session_over ticked signal_taken post_taken frame_sent
+unfolding line_for acts_of after items_of read_options packet_in answer_to Asked word_of skipped body fcs_octets with_fcs escaped flagged enclosed bits number plus zeros divisor bring_down remainder with_first_complemented Residue fed heard_at after_event looked_after frame_taken link_opened chat_called octet_taken phase_called phase_begun join_tried caused lcp_left lcp_closed ended_by lcp_answer lcp_entered answered lcp_called protocol_rejected attempted line_come line_lost session_over ticked signal_taken post_taken frame_sent
 returns-clause-stopped c limits = refl
 
 pub returns-clause-before : goal.returns-clause-before
-unfolding acts_of after items_of read_options packet_in answer_to Asked word_of skipped body fcs_octets with_fcs escaped flagged enclosed bits number plus zeros divisor bring_down remainder with_first_complemented Residue fed heard_at after_event looked_after frame_taken link_opened chat_called octet_taken phase_called phase_begun join_tried caused lcp_left lcp_closed ended_by lcp_answer lcp_entered answered lcp_called protocol_rejected attempted line_come line_lost session_over ticked signal_taken post_taken frame_sent
+unfolding line_for acts_of after items_of read_options packet_in answer_to Asked word_of skipped body fcs_octets with_fcs escaped flagged enclosed bits number plus zeros divisor bring_down remainder with_first_complemented Residue fed heard_at after_event looked_after frame_taken link_opened chat_called octet_taken phase_called phase_begun join_tried caused lcp_left lcp_closed ended_by lcp_answer lcp_entered answered lcp_called protocol_rejected attempted line_come line_lost session_over ticked signal_taken post_taken frame_sent
 returns-clause-before c limits = refl
+
+pub returns-clause-status : goal.returns-clause-status
+unfolding line_for acts_of after items_of read_options packet_in answer_to Asked word_of skipped body fcs_octets with_fcs escaped flagged enclosed bits number plus zeros divisor bring_down remainder with_first_complemented Residue fed heard_at after_event looked_after frame_taken link_opened chat_called octet_taken phase_called phase_begun join_tried caused lcp_left lcp_closed ended_by lcp_answer lcp_entered answered lcp_called protocol_rejected attempted line_come line_lost session_over ticked signal_taken post_taken frame_sent
+returns-clause-status c limits = refl
