@@ -1,7 +1,6 @@
 -- What each event leaves as it was.
-use Rattle.std.proofs.Common.{refl, sym, arith, ◌≡◌, ◌≤◌, ℕ, ◌+◌, ◌∙◌, ◌∷◌, Bool, true, false, is_some, ◌||◌}
+use Rattle.std.proofs.Common.{refl, arith, ◌≡◌, ◌≤◌, ℕ, ◌+◌, ◌∙◌, ◌∷◌, Bool, true, false, is_some, ◌||◌}
 use Rattle.std.proofs.lemmas.Bool.{false≢true}
-use Rattle.ppp_base.specs.declared.hook_target.HookTarget.TheVariants.{Link}
 use Rattle.ppp_base.specs.declared.signal_word.SignalWord.{SignalWord}
 use Rattle.ppp_base.specs.declared.signal_word.SignalWord.TheVariants.{Hup, Int, Term, Usr1, Usr2}
 use Rattle.ppp_dial.specs.declared.call.CallKind.TheVariants as call
@@ -19,11 +18,11 @@ use Rattle.ppp_link.specs.Dialling.{dial_says}
 use Rattle.ppp_link.specs.Hearing.{looked_after}
 use Rattle.ppp_link.specs.Kept.{CountsKept, most_signals, signals_in, time_after}
 use Rattle.ppp_link.specs.LinkEvent.{Event, Begin, Dialled, Bytes, LineOver, Flushed, Tick, Signal, FromTable, HookOver}
-use Rattle.ppp_link.specs.LinkPart.{after, after_if, after_unless, is_nothing, happened, bytes_taken, job_ended, reading_back, writing_back, begun}
+use Rattle.ppp_link.specs.LinkPart.{after, after_unless, is_nothing, happened, reading_back, writing_back}
 use Rattle.ppp_link.specs.LinkState.{LinkState, control, is_busy}
 use Rattle.ppp_link.specs.Marks.{hold_by, status_by}
 use Rattle.ppp_link.specs.Sessions.{at_end, dial_answered}
-use Rattle.ppp_link.specs.Signals.{hung_up, hung_up_by, signal_marked, signal_taken, stopped, stopped_by, stopping}
+use Rattle.ppp_link.specs.Signals.{hung_up_by, signal_marked, signal_taken, stopped_by, stopping}
 use Rattle.ppp_link.specs.Ticking.{moments_of, ticked, timers_treated, with_time}
 use Rattle.ppp_link.proofs.UnchangedLemmas.{Unchanged, chat-ticked, dial-answered, dial-come, due-signals, ended-by, line-lost, looked-after, octets-taken, post-taken, session-over, slots-treated, then, unchanged}
 

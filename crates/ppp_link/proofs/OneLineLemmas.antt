@@ -28,7 +28,7 @@ pub by_place : (b : Bool) (piece : PieceValue) (pieces : List PieceValue) (all f
 by_place true piece pieces all front left is whole one go =
     let behind_is : left ≡ piece.octets ++ one.behind = same_behind front left one.before (piece.octets ++ one.behind) (sym whole ∙ one.whole) (one.place ∙ eqb-true piece.offset (length front) is) in
     let more : Takes one.behind (taken_of (length (front ++ piece.octets)) pieces) =
-        go (front ++ piece.octets) one.behind (whole ∙ (ap (λ l. front ++ l) behind_is ∙ sym (append_assoc front piece.octets one.behind))) in
+    go (front ++ piece.octets) one.behind (whole ∙ (ap (λ l. front ++ l) behind_is ∙ sym (append_assoc front piece.octets one.behind))) in
     takes_one left piece.octets one.behind (taken_of (length front + length piece.octets) pieces) behind_is
     (subst (λ n. Takes one.behind (taken_of n pieces)) (length-append front piece.octets) more)
 by_place false piece pieces all front left is whole one go = go front left whole

@@ -1,5 +1,5 @@
 -- The table of phase and protocol, kind by kind.
-use Rattle.std.proofs.Common.{refl, ◌≡◌, Bool, true, false}
+use Rattle.std.proofs.Common.{refl, ◌≡◌, true}
 use Rattle.std.proofs.lemmas.Bool.{false≢true}
 use Rattle.ppp_link.specs.Phase.{Kind, OfLcp, OfAuth, OfOtherAuth, OfTable, Unknown, LinkPhase, Establishing, Authenticating, Networking, Discarded, treatment, is_of_network}
 

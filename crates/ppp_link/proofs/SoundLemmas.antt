@@ -1,11 +1,10 @@
 -- What is true of links with no marks of scripts.
-use Rattle.std.proofs.Common.{refl, ap, arith, ◌≡◌, ◌≢◌, Bool, true, false, List, [], ◌∷◌, ◌++◌, length, ℕ, inl}
+use Rattle.std.proofs.Common.{refl, ap, ◌≡◌, ◌≢◌, Bool, true, false, List, [], ◌∷◌, ◌++◌, inl}
 use Rattle.std.proofs.lemmas.Bool.{false≢true}
-use Rattle.std.proofs.lemmas.List.{length-append}
 use Rattle.ppp_hooks.specs.HookLaw.{HookLaw}
 use Rattle.ppp_hooks.specs.HookMark.{HookMark}
 use Rattle.ppp_hooks.specs.Settled.{Settled}
-use Rattle.ppp_link.specs.Marks.{Doing, New, Dials, HasLine, IsOver, Holds, Waits, HasFinished, is_new}
+use Rattle.ppp_link.specs.Marks.{Doing, New, Dials, HasLine, IsOver, Waits, is_new}
 
 pub none_behind : (before : List HookMark) (mark : HookMark) (after : List HookMark) → [] ≡ before ++ mark ∷ after → ⊥
 none_behind [] mark after e = cc e

@@ -1,18 +1,15 @@
 -- Each rule leaves unchanged what it should.
-use Rattle.std.proofs.Common.{refl, sym, ◌∙◌, ap, ◌≡◌, ℕ, ◌+◌, Bool, true, false, Option, None, Some, List, [], ◌∷◌, ◌++◌, is_some, is_none, ◌&&◌, not}
+use Rattle.std.proofs.Common.{refl, ◌∙◌, ◌≡◌, ℕ, Bool, true, false, Option, None, Some, List, [], ◌∷◌, ◌++◌, is_some, is_none, ◌&&◌, not}
 use Rattle.ppp_base.specs.declared.hook_target.HookTarget.TheVariants.{Link}
 use Rattle.ppp_base.specs.declared.posts.Post.{Post}
 use Rattle.ppp_base.specs.declared.posts.Post.TheVariants.{Member, Refused, Close, Send, Reject, Wake}
-use Rattle.ppp_base.specs.declared.signal_word.SignalWord.{SignalWord}
-use Rattle.ppp_base.specs.declared.signal_word.SignalWord.TheVariants.{Hup, Int, Term, Usr1, Usr2}
 use Rattle.ppp_packet.specs.declared.packet.Packet.{Packet}
 use Rattle.ppp_packet.specs.declared.agreed.Agreed.{Agreed}
 use Rattle.ppp_chat.specs.declared.event.Event.{Event as ChatEvent}
 use Rattle.ppp_chat.specs.declared.now.ChatNow.{ChatNow}
 use Rattle.ppp_chat.specs.declared.now.ChatNow.TheVariants.{Going as going, Sent as sends, Done as done, TimedOut as timed_out, Aborted as aborted}
 use Rattle.ppp_chat.specs.Script.{ChatScript}
-use Rattle.ppp_chat.specs.Event.{tick_at, octet_at}
-use Rattle.ppp_control.specs.Rules.{Call, by_itself, closes, comes_up, goes_down, opens, ticks, hears, rejects}
+use Rattle.ppp_control.specs.Rules.{Call, by_itself, closes, goes_down}
 use Rattle.ppp_auth.specs.Outcome.{outcome_in}
 use Rattle.ppp_auth.specs.Phase.{told_at}
 use Rattle.ppp_dial.specs.declared.call.CallKind.TheVariants as call
@@ -31,30 +28,29 @@ use Rattle.ppp_auth.specs.declared.out.PhaseOut.{PhaseOut}
 use Rattle.ppp_auth.specs.declared.out.PhasePacket.{PhasePacket}
 use Rattle.ppp_auth.specs.declared.outcome.AuthNow.{AuthNow}
 use Rattle.ppp_auth.specs.declared.outcome.AuthNow.TheVariants.{Going, Passed, PeerFailed, WeFailed}
-use Rattle.ppp_auth.specs.Setting.{PhaseAt, PhaseCall, starts, takes, waits}
+use Rattle.ppp_auth.specs.Setting.{PhaseAt, PhaseCall}
 use Rattle.ppp_mark.specs.declared.mark.Mark.{Mark}
 use Rattle.ppp_mark.specs.Log.{LogState}
 use Rattle.ppp_mark.specs.ScriptLog.{closed_mark, log_closed_at, next_opening, opened_mark}
 use Rattle.ppp_hooks.specs.HookRule.{due_after}
 use Rattle.ppp_mark.specs.Scripts.{due_marks, marks_at, said_in}
-use Rattle.ppp_outside.specs.declared.spawner.ScriptEnd.{ScriptEnd}
 use Rattle.ppp_timer.specs.declared.slot.Slot.{Slot}
 use Rattle.ppp_timer.specs.declared.slot.Slot.TheVariants as slot
 use Rattle.ppp_link.specs.declared.cause.Cause.{Cause}
-use Rattle.ppp_link.specs.Authentication.{answering, asked_by, asked_if, auth_opened, called_part as phase_part, ended_by_outcome, join_tried, new_phase, opened_for, phase_begun, phase_begun_by, phase_called, phase_heard, phase_told, with_phase}
+use Rattle.ppp_link.specs.Authentication.{asked_by, asked_if, auth_opened, called_part as phase_part, ended_by_outcome, join_tried, new_phase, opened_for, phase_begun, phase_begun_by, phase_called, phase_heard, phase_told, with_phase}
 use Rattle.ppp_link.specs.Dialling.{dial_says, end_by}
-use Rattle.ppp_link.specs.Ending.{auth_closed, caused, first_caused, is_first, closed_marked, closed_if, closed_part, closing, ended_by, ended_if, first_caused_by, lcp_closed, lcp_left, left_by, left_if, stay_left, with_call}
-use Rattle.ppp_link.specs.Hearing.{chat_answer, has_many, chat_called, chat_told, chat_ticked_by, checked, ended_if_many, frame_taken, heard_taken, link_opened, looked_after, octet_taken, octet_to, octets_taken, talk_begun_by, treated, with_fed}
+use Rattle.ppp_link.specs.Ending.{auth_closed, caused, first_caused, is_first, closed_marked, closed_if, closed_part, closing, ended_by, ended_if, first_caused_by, lcp_closed, lcp_left, left_by, left_if, with_call}
+use Rattle.ppp_link.specs.Hearing.{chat_answer, has_many, chat_called, chat_told, chat_ticked_by, ended_if_many, frame_taken, heard_taken, link_opened, looked_after, octet_taken, octet_to, octets_taken, talk_begun_by, treated, with_fed}
 use Rattle.ppp_link.specs.Kept.{signals_in}
 use Rattle.ppp_link.specs.LcpAnswer.{lcp_answer}
-use Rattle.ppp_link.specs.LcpCalls.{answered, cause_of, followed, open_marked, called_part, followed_by, lcp_called, lcp_entered, lcp_heard, protocol_rejected, with_answer}
+use Rattle.ppp_link.specs.LcpCalls.{answered, cause_of, followed, open_marked, called_part, followed_by, lcp_called, lcp_entered, lcp_heard, protocol_rejected}
 use Rattle.ppp_link.specs.LinkState.{LinkState, agreed, control, has_passed, is_busy, is_lasting, is_open, lcp_state, outcome_of, AuthPart, LcpPart, Listener, Nobody, Chatting, Framing}
 use Rattle.ppp_mark.specs.Marks.{refused_mark}
 use Rattle.ppp_link.specs.Marking.{marked}
 use Rattle.ppp_link.specs.Phase.{Phase, may_ask, phase_by, Treatment, ToLcp, ToAuth, ToTable, ToReject, Discarded}
 use Rattle.ppp_link.specs.Posts.{live_if, made_member, member_marked, member_if, post_taken, rejected_in, sent_in}
-use Rattle.ppp_link.specs.Sending.{frame_sent, octets_sent, packets_sent, phase_sent}
-use Rattle.ppp_link.specs.Sessions.{attempted, is_over, dial_answered, dial_come, dial_told_over, line_come, line_come_if, line_gone, line_gone_if, line_lost, with_dial_back, with_failure, with_line, with_line_ended, over_if, over_marked, session_over}
+use Rattle.ppp_link.specs.Sending.{frame_sent, packets_sent, phase_sent}
+use Rattle.ppp_link.specs.Sessions.{attempted, is_over, dial_answered, dial_come, line_come, line_come_if, line_gone, line_gone_if, line_lost, with_dial_back, with_failure, with_line, with_line_ended, over_if, over_marked, session_over}
 use Rattle.ppp_link.specs.Ticking.{moments_of, slots_treated, treated as slot_treated, treated_if}
 
 -- what is the link's own for good, its time, and how many signals it marked

@@ -1,5 +1,5 @@
 -- The phase of authentication (RFC 1661, section 3.5): it begins as LCP enters Opened, and tells when the peer has passed, and who failed.
-use Rattle.std.specs.Prelude.{ℕ, ◌+◌, Bool, true, false, Option, None, Some, List, [], ◌∷◌, if◌then◌else◌, is_none}
+use Rattle.std.specs.Prelude.{ℕ, ◌+◌, Bool, true, false, Option, None, Some, List, [], ◌∷◌}
 use Rattle.ppp_base.specs.declared.allow.Allow.{Allow}
 use Rattle.ppp_base.specs.declared.hook_target.HookTarget.TheVariants.{Link}
 use Rattle.ppp_base.specs.RandomWords.{challenge_of, state_after}
@@ -9,11 +9,10 @@ use Rattle.ppp_auth.specs.declared.out.PhaseOut.{PhaseOut}
 use Rattle.ppp_auth.specs.declared.outcome.AuthNow.{AuthNow}
 use Rattle.ppp_auth.specs.declared.outcome.AuthNow.TheVariants.{Going, Passed, PeerFailed, WeFailed}
 use Rattle.ppp_auth.specs.Phase.{told_at}
-use Rattle.ppp_auth.specs.Setting.{Setting, PhaseAt, PhaseCall, starts, takes, waits}
+use Rattle.ppp_auth.specs.Setting.{Setting, PhaseAt, PhaseCall, starts, takes}
 use Rattle.ppp_hooks.specs.HookFacts.{settled, with_open}
 use Rattle.ppp_mark.specs.Marks.{asked_mark}
 use Rattle.ppp_mark.specs.ScriptLog.{log_opened, next_opening}
-use Rattle.ppp_link.specs.declared.cause.Cause.{Cause}
 use Rattle.ppp_link.specs.CauseStatus.{peer_failed, we_failed}
 use Rattle.ppp_link.specs.Ending.{ended_by}
 use Rattle.ppp_link.specs.LinkState.{LinkState, AuthPart, agreed, control, has_passed, is_open, outcome_of}

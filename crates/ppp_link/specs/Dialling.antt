@@ -12,7 +12,7 @@ use Rattle.ppp_dial.specs.LookingBack.{SoFar, so_far, nothing_yet}
 use Rattle.ppp_outside.specs.declared.line_words.LineWords.{LineWords}
 use Rattle.ppp_mark.specs.declared.mark.Mark.{Mark}
 use Rattle.ppp_mark.specs.declared.kind.TheConstants.{ATTEMPT, SIGNAL, OVER, HOLD, WAIT, FINISHED}
-use Rattle.ppp_mark.specs.Log.{LogState, room_of}
+use Rattle.ppp_mark.specs.Log.{room_of}
 use Rattle.ppp_link.specs.declared.cause.Cause.{Cause}
 use Rattle.ppp_link.specs.CauseStatus.{CauseStatus}
 use Rattle.ppp_link.specs.Marks.{Doing, New, Dials, HasLine, IsOver, Holds, Waits, HasFinished, cause_in, doing_in, is_session}

@@ -1,5 +1,5 @@
 -- What ends a session: the first cause is kept, the chat is given up, and LCP is closed. What leaves Opened closes authentication and the stay.
-use Rattle.std.specs.Prelude.{ℕ, ◌==◌, ◌&&◌, Bool, true, false, if◌then◌else◌, Option, None, Some, is_some, is_none, ◌∷◌}
+use Rattle.std.specs.Prelude.{ℕ, ◌&&◌, Bool, true, false, Option, None, Some, is_some, ◌∷◌}
 use Rattle.ppp_base.specs.declared.hook_target.HookTarget.TheVariants.{Link}
 use Rattle.ppp_base.specs.declared.send_settings.TheConstants.{DEFAULT_MAP}
 use Rattle.ppp_control.specs.Rules.{Call, by_itself, closes}
@@ -8,7 +8,7 @@ use Rattle.ppp_lcp.specs.Session.{called}
 use Rattle.ppp_mark.specs.Marks.{cause_mark, lcp_closed_mark, left_mark}
 use Rattle.ppp_mark.specs.ScriptLog.{closed_facts, log_closed}
 use Rattle.ppp_link.specs.declared.cause.Cause.{Cause}
-use Rattle.ppp_link.specs.LinkState.{LinkState, Listener, Nobody, Chatting, Framing, LcpPart, control, is_busy, is_lasting, is_open}
+use Rattle.ppp_link.specs.LinkState.{LinkState, Listener, Nobody, Chatting, Framing, LcpPart, control, is_busy, is_open}
 use Rattle.ppp_link.specs.LcpAnswer.{lcp_answer}
 use Rattle.ppp_link.specs.Marking.{marked}
 use Rattle.ppp_link.specs.RingAfter.{put_control}

@@ -1,5 +1,5 @@
 -- What contracts see of the errands of a link, and what their counts tell of the outside.
-use Rattle.std.specs.Prelude.{ℕ, ◌+◌, ◌-◌, ◌<◌, ◌≤◌, ◌≡◌, Bool, true, false, not, Option, None, Some, is_some, List, length, take, ⊤}
+use Rattle.std.specs.Prelude.{ℕ, ◌+◌, ◌-◌, ◌<◌, ◌≤◌, ◌≡◌, Option, None, Some, List, length, take, ⊤}
 use Rattle.std.specs.Io.KnownBytes.{Appends, IsAtEnd}
 use Rattle.ppp_hooks.specs.HookCounts.{CountsFrom}
 use Rattle.ppp_outside.specs.Counts.{Rose}

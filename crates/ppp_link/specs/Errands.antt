@@ -1,12 +1,11 @@
 -- The errands of a link: when each is given, and which one that comes back is the one that is out.
-use Rattle.std.specs.Prelude.{ℕ, ◌+◌, ◌==◌, ◌&&◌, not, nat_lt, Bool, true, false, if◌then◌else◌, Option, None, Some, is_some, List, [], ◌∷◌, length, take, drop}
+use Rattle.std.specs.Prelude.{ℕ, ◌==◌, ◌&&◌, not, Bool, true, false, Option, None, Some, is_some, List, [], ◌∷◌, take, drop}
 use Rattle.ppp_base.specs.declared.hook_target.HookTarget.{HookTarget}
 use Rattle.ppp_base.specs.declared.hook_target.HookTarget.TheVariants.{Link, Unit as OfUnit}
-use Rattle.ppp_link.specs.declared.errand.Errand.{Errand}
-use Rattle.ppp_link.specs.declared.errand.Errand.TheVariants.{Absent, Waiting, Out}
+use Rattle.ppp_link.specs.declared.errand.Errand.TheVariants.{Out}
 use Rattle.ppp_link.specs.declared.limits.TheConstants.{MOST_WRITTEN}
 use Rattle.ppp_link.specs.UpValue.{UpValue}
-use Rattle.ppp_link.specs.LinkState.{LinkState, control, is_lasting, is_out, is_waiting, wants_line}
+use Rattle.ppp_link.specs.LinkState.{LinkState, control, is_out, is_waiting, wants_line}
 
 -- THE DIAL, where an attempt waits for it
 abbrev pub gives_dial : LinkState → Bool

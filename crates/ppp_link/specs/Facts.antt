@@ -17,7 +17,7 @@ use Rattle.ppp_link.specs.Dialling.{DialsLawfully, dial_so_far}
 use Rattle.ppp_link.specs.LinkEvent.{Event, Begin, Signal, FromTable}
 use Rattle.ppp_link.specs.LinkPart.{is_nothing}
 use Rattle.ppp_link.specs.LinkState.{AuthPart, LinkState, agreed, control, is_absent, is_busy, is_lasting, is_network, is_open, has_passed, outcome_of}
-use Rattle.ppp_link.specs.Marks.{Doing, New, Dials, HasLine, IsOver, Holds, Waits, HasFinished, hold_by, status_by}
+use Rattle.ppp_link.specs.Marks.{Doing, New, Dials, HasLine, IsOver, Waits, hold_by, status_by}
 use Rattle.ppp_link.specs.RingAfter.{has_control, is_control}
 use Rattle.ppp_link.specs.Sessions.{is_over}
 use Rattle.ppp_link.specs.UpValue.{JoinValue, UpValue, Asks, Hands, Leaves}

@@ -1,5 +1,5 @@
 -- What the octets of the line lead to: first they are the chat script's, and once it is done they are frames.
-use Rattle.std.specs.Prelude.{ℕ, ◌==◌, ◌&&◌, nat_le, Bool, true, false, if◌then◌else◌, Option, None, Some, List, [], ◌∷◌, ◌++◌}
+use Rattle.std.specs.Prelude.{ℕ, ◌&&◌, nat_le, Bool, true, false, Option, None, Some, List, [], ◌∷◌, ◌++◌}
 use Rattle.ppp_chat.specs.declared.event.Event.{Event}
 use Rattle.ppp_chat.specs.declared.now.ChatNow.{ChatNow}
 use Rattle.ppp_chat.specs.declared.now.ChatNow.TheVariants.{Going, Sent, Done, TimedOut, Aborted}

@@ -1,6 +1,6 @@
 -- What a session heard and did, by looking back over all that happened since its attempt, the newest first. Nothing here says in which order the rules of a link
 -- do their work: only what a frame asks, what each call answers, what is due, and which reason each end of a session has.
-use Rattle.std.specs.Prelude.{ℕ, ◌≡◌, ◌+◌, ◌-◌, ◌*◌, ◌==◌, ◌&&◌, ◌||◌, not, max, min, nat_le, nat_lt, Bool, true, false, if◌then◌else◌, Option, None, Some, is_some, is_none, List, [], ◌∷◌, ◌++◌, ⊤, length, map, filter}
+use Rattle.std.specs.Prelude.{ℕ, ◌≡◌, ◌+◌, ◌-◌, ◌*◌, ◌==◌, ◌&&◌, ◌||◌, not, nat_le, nat_lt, Bool, true, false, if◌then◌else◌, Option, None, Some, is_some, is_none, List, [], ◌∷◌, ◌++◌, ⊤, length, map, filter}
 use Rattle.ppp_base.specs.RandomWords.{branch_of, challenge_of, state_after}
 use Rattle.ppp_base.specs.declared.posts.Post.TheVariants.{Member, Refused, Close, Send, Reject, Wake}
 use Rattle.ppp_base.specs.declared.protocol.TheConstants.{LCP}
@@ -45,7 +45,7 @@ use Rattle.ppp_link.specs.declared.cause.Cause.{Cause}
 use Rattle.ppp_link.specs.declared.counts.FrameCounts.{FrameCounts}
 use Rattle.ppp_link.specs.declared.errand.ReadEnd.TheVariants as read
 use Rattle.ppp_link.specs.declared.errand.SentEnd.TheVariants as sent
-use Rattle.ppp_link.specs.declared.limits.TheConstants.{MOST_MARKS, MOST_TIME}
+use Rattle.ppp_link.specs.declared.limits.TheConstants.{MOST_MARKS}
 use Rattle.ppp_link.specs.CauseStatus.{cause, chat_aborted, chat_timed_out, closed_by, dial_failed, gave_up, join_refused, line_ended, peer_ended, peer_failed, read_failed, refused, signalled, too_many_marks, we_failed, write_failed}
 use Rattle.ppp_link.specs.FrameCounts.{counts_from}
 use Rattle.ppp_link.specs.Hearing.{chat_answer}

@@ -3,7 +3,7 @@ use Rattle.std.specs.Prelude.{ℕ, ◌+◌, ◌≡◌, ◌≤◌, max, min, List
 use Rattle.ppp_mark.specs.declared.mark.Mark.{Mark}
 use Rattle.ppp_mark.specs.declared.kind.TheConstants.{SIGNAL}
 use Rattle.ppp_link.specs.declared.limits.TheConstants.{MOST_TIME}
-use Rattle.ppp_link.specs.LinkEvent.{Event, Begin, Dialled, Bytes, LineOver, Flushed, Tick, Signal, FromTable, HookOver}
+use Rattle.ppp_link.specs.LinkEvent.{Event, Tick, Signal}
 use Rattle.ppp_link.specs.LinkState.{LinkState}
 use Rattle.ppp_link.specs.Marks.{count_in}
 

@@ -1,5 +1,5 @@
 -- What LCP answers to a call, by looking back over its calls (RFC 1661).
-use Rattle.std.specs.Prelude.{ℕ, min, Option, None, Some, List, ◌∷◌}
+use Rattle.std.specs.Prelude.{ℕ, min, Option, List, ◌∷◌}
 use Rattle.ppp_fsm.specs.declared.event.FsmEvent.{FsmEvent}
 use Rattle.ppp_fsm.specs.declared.acts.Act.{Act}
 use Rattle.ppp_packet.specs.declared.packet.Packet.{Packet}
@@ -7,7 +7,7 @@ use Rattle.ppp_control.specs.Past.{automaton_after}
 use Rattle.ppp_control.specs.Rules.{Call, acts_on, called_with, event_in, happened_in, sends_on}
 use Rattle.ppp_lcp.specs.declared.out.LcpOut.{LcpOut}
 use Rattle.ppp_lcp.specs.declared.wish.LcpWish.{LcpWish}
-use Rattle.ppp_lcp.specs.Session.{LcpCall, auth_refused_at, called, in_a_row, lost_at, network_refused_at, own_requests, rules}
+use Rattle.ppp_lcp.specs.Session.{LcpCall, auth_refused_at, in_a_row, lost_at, network_refused_at, own_requests, rules}
 
 -- what it tells of a call that is this event, does these acts and sends these packets
 abbrev pub told_of : LcpWish → ℕ → List LcpCall → Call (Unit {0}) → ℕ → Option FsmEvent → List Act → List Packet → LcpOut

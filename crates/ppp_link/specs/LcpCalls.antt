@@ -6,7 +6,7 @@ use Rattle.ppp_fsm.specs.declared.event.FsmEvent.TheVariants.{RxjBad, Rtr, Timeo
 use Rattle.ppp_fsm.specs.declared.acts.Act.{Act}
 use Rattle.ppp_fsm.specs.declared.acts.Act.TheVariants.{Tlf}
 use Rattle.ppp_packet.specs.declared.packet.Packet.{Packet}
-use Rattle.ppp_control.specs.Rules.{Call, by_itself, comes_up, goes_down, opens, ticks, hears, rejects}
+use Rattle.ppp_control.specs.Rules.{Call, hears, rejects}
 use Rattle.ppp_lcp.specs.declared.out.LcpOut.{LcpOut}
 use Rattle.ppp_mark.specs.Marks.{lcp_open_mark}
 use Rattle.ppp_link.specs.declared.cause.Cause.{Cause}

@@ -1,6 +1,5 @@
 -- One event of a link: which are stale, and what the others leave. A stale one comes back, and nothing has changed.
-use Rattle.std.specs.Prelude.{ℕ, ◌≡◌, ◌&&◌, not, Bool, true, false, if◌then◌else◌, List, length}
-use Rattle.ppp_base.specs.declared.hook_target.HookTarget.TheVariants.{Link}
+use Rattle.std.specs.Prelude.{ℕ, ◌≡◌, ◌&&◌, not, Bool, true, false, List, length}
 use Rattle.ppp_dial.specs.declared.call.CallKind.TheVariants.{Start}
 use Rattle.ppp_hooks.specs.HookFacts.{settled, with_end}
 use Rattle.ppp_mark.specs.ScriptLog.{log_ended}

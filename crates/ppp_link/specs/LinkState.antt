@@ -1,6 +1,6 @@
 -- One link, as plain values. What its control part is stands in its log alone and is read off it.
 -- Of its chat, its LCP, its phase of authentication the state has the calls that each of them was asked.
-use Rattle.std.specs.Prelude.{ℕ, ◌==◌, ◌&&◌, ◌||◌, not, Bool, true, false, if◌then◌else◌, Option, None, Some, is_some, is_none, List}
+use Rattle.std.specs.Prelude.{ℕ, ◌==◌, ◌&&◌, ◌||◌, not, Bool, true, false, Option, None, Some, is_none, List}
 use Rattle.ppp_packet.specs.declared.agreed.Agreed.{Agreed}
 use Rattle.ppp_chat.specs.declared.event.Event.{Event}
 use Rattle.ppp_control.specs.Past.{automaton_after}

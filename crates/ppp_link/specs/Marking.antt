@@ -1,5 +1,5 @@
 -- Marks are written at the link's time.
-use Rattle.std.specs.Prelude.{ℕ, ◌∷◌}
+use Rattle.std.specs.Prelude.{ℕ}
 use Rattle.ppp_mark.specs.declared.mark.Mark.{Mark}
 use Rattle.ppp_mark.specs.Log.{added}
 use Rattle.ppp_link.specs.LinkState.{LinkState}

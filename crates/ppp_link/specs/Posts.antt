@@ -1,9 +1,7 @@
 -- What a post of the table does to a link.
-use Rattle.std.specs.Prelude.{ℕ, ◌==◌, ◌&&◌, Bool, true, false, if◌then◌else◌, not, Option, None, Some, is_some, is_none, List}
-use Rattle.ppp_base.specs.declared.posts.CloseCause.{CloseCause}
+use Rattle.std.specs.Prelude.{ℕ, ◌==◌, ◌&&◌, Bool, true, false, not, Option, None, Some, is_none, List}
 use Rattle.ppp_base.specs.declared.posts.Post.{Post}
 use Rattle.ppp_base.specs.declared.posts.Post.TheVariants.{Member, Refused, Close, Send, Reject, Wake}
-use Rattle.ppp_base.specs.declared.posts.Refusal.{Refusal}
 use Rattle.ppp_dial.specs.declared.call.CallKind.TheVariants as call
 use Rattle.ppp_mark.specs.Marks.{live_mark, member_mark, refused_mark}
 use Rattle.ppp_link.specs.CauseStatus.{closed_by, join_refused}

@@ -1,15 +1,15 @@
 -- Short names for worked lives of a link.
-use Rattle.std.specs.Prelude.{ℕ, ◌-◌, Bool, true, false, if◌then◌else◌, Option, None, Some, List, [], ◌∷◌, length, take, codes, reverse}
+use Rattle.std.specs.Prelude.{ℕ, true, false, if◌then◌else◌, None, Some, List, [], ◌∷◌, codes, reverse}
 use Rattle.ppp_base.specs.declared.hook_target.HookTarget.TheVariants.{Link}
 use Rattle.ppp_outside.specs.declared.spawner.ScriptEnd.TheVariants.{Exit}
-use Rattle.ppp_chat.specs.Script.{ChatScript, Directs, Pair}
+use Rattle.ppp_chat.specs.Script.{Directs, Pair}
 use Rattle.ppp_chat.specs.declared.directive.Directive.TheVariants.{Abort}
 use Rattle.ppp_outside.specs.declared.line_words.LineWords.TheVariants.{Socket}
 use Rattle.ppp_secrets.specs.declared.secrets.SecretsPair.{SecretsPair}
 use Rattle.ppp_fsm.specs.declared.fsm.Limits.{Limits}
 use Rattle.ppp_option_words.specs.LinkValues.{LinkValues}
 use Rattle.ppp_mark.specs.declared.mark.Mark.{Mark}
-use Rattle.ppp_link.specs.Errands.{gives_dial, gives_job, gives_reading, gives_writing, octets_given, with_dial_out, with_job_out, with_reading_out, with_writing_out}
+use Rattle.ppp_link.specs.Errands.{gives_dial, gives_job, gives_reading, gives_writing, with_dial_out, with_job_out, with_reading_out, with_writing_out}
 use Rattle.ppp_hdlc.specs.Encoding.{encoding}
 use Rattle.ppp_link.specs.declared.errand.ReadEnd.TheVariants.{Left}
 use Rattle.ppp_link.specs.declared.errand.SentEnd.TheVariants.{All}

@@ -1,5 +1,5 @@
 -- How a session begins, gets its line, loses it and is over, and what follows (pppd(8), "persist", "holdoff" and "maxfail").
-use Rattle.std.specs.Prelude.{ℕ, ◌+◌, ◌&&◌, not, Bool, true, false, if◌then◌else◌, Option, None, Some, is_some, []}
+use Rattle.std.specs.Prelude.{◌+◌, ◌&&◌, not, Bool, true, false, Option, None, Some, is_some, []}
 use Rattle.ppp_base.specs.RandomWords.{branch_of, state_after}
 use Rattle.ppp_control.specs.Rules.{by_itself, goes_down}
 use Rattle.ppp_dial.specs.declared.call.CallKind.TheVariants.{SessionOver}
@@ -16,7 +16,6 @@ use Rattle.ppp_link.specs.Hearing.{looked_after, talk_begun}
 use Rattle.ppp_link.specs.LcpCalls.{lcp_called}
 use Rattle.ppp_link.specs.LinkState.{LinkState, Nobody, control, is_absent, is_busy, is_lasting, is_out, wants_line}
 use Rattle.ppp_link.specs.Marking.{marked}
-use Rattle.ppp_link.specs.RingAfter.{Ring}
 
 -- WHAT THE DIAL SAYS
 

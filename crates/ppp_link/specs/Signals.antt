@@ -1,5 +1,5 @@
 -- What a signal does (pppd(8), "SIGNALS"): INT and TERM stop the link; HUP ends a session, or a hold at once. A signal that changes nothing has no mark.
-use Rattle.std.specs.Prelude.{ℕ, ◌||◌, Bool, true, false, if◌then◌else◌, is_some}
+use Rattle.std.specs.Prelude.{◌||◌, Bool, true, false, is_some}
 use Rattle.ppp_base.specs.declared.signal_word.SignalWord.{SignalWord}
 use Rattle.ppp_base.specs.declared.signal_word.SignalWord.TheVariants.{Hup, Int, Term, Usr1, Usr2}
 use Rattle.ppp_dial.specs.declared.call.CallKind.TheVariants as call

@@ -1,6 +1,6 @@
 -- What a tick does: each slot that is due at its beginning is treated once, in the order of slots, but for those that an earlier one has cleared
 -- (RFC 1661, section 4.6).
-use Rattle.std.specs.Prelude.{ℕ, ◌^◌, max, min, Bool, true, false, if◌then◌else◌, Option, None, Some, is_some, List, [], ◌∷◌}
+use Rattle.std.specs.Prelude.{ℕ, max, min, Bool, true, false, Option, None, Some, is_some, List, [], ◌∷◌}
 use Rattle.ppp_auth.specs.Setting.{waits}
 use Rattle.ppp_control.specs.Rules.{ticks}
 use Rattle.ppp_dial.specs.declared.call.CallKind.TheVariants.{Tick}

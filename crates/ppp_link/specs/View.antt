@@ -1,5 +1,4 @@
 -- What a link shows of itself.
-use Rattle.std.specs.Prelude.{ℕ}
 use Rattle.ppp_link.specs.declared.view.LinkView.{LinkView}
 use Rattle.ppp_link.specs.LinkState.{LinkState, control, lcp_state}
 

@@ -1,5 +1,5 @@
 -- What the options of a link ask of its parts (pppd(8)).
-use Rattle.std.specs.Prelude.{ℕ, ◌-◌, ◌≡◌, ◌&&◌, ◌||◌, not, Bool, if◌then◌else◌, Option, None, Some, List, [], ◌∷◌, codes}
+use Rattle.std.specs.Prelude.{ℕ, ◌-◌, ◌≡◌, ◌&&◌, ◌||◌, not, Bool, Option, None, Some, List, [], ◌∷◌, codes}
 use Rattle.ppp_fsm.specs.declared.fsm.Limits.{Limits}
 use Rattle.ppp_lcp.specs.declared.wish.LcpWish.{LcpWish}
 use Rattle.ppp_auth.specs.declared.config.AuthConfig.{AuthConfig}

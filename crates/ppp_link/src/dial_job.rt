@@ -5,7 +5,7 @@ ghost use Rattle.ppp_outside.specs.Sink.{IsNewSink};
 ghost use Rattle.ppp_link.specs.ErrandValues.{DialJobCounts, DialDoneCounts};
 
 use ppp_base::LinkId;
-use ppp_outside::{Dialled, Dialer, LineWords, ScriptedDialer};
+use ppp_outside::{Dialer, Dialled, LineWords, ScriptedDialer};
 use std::marker::Model;
 
 /// A dial that an attempt waits for, and the dialer that is to make it. A link alone makes one.

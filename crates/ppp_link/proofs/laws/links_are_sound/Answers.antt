@@ -1,6 +1,6 @@
-use Rattle.std.proofs.Common.{refl, arith, true}
+use Rattle.std.proofs.Common.{refl}
 use Rattle.std.proofs.lemmas.Bool.{false≢true}
-use Rattle.ppp_link.proofs.SoundLemmas.{no_marks_law, no_marks_settled, new_not_over, line_not_over, dials_not_new, new_not_waits}
+use Rattle.ppp_link.proofs.SoundLemmas.{no_marks_law, no_marks_settled, new_not_over, dials_not_new, new_not_waits}
 use Rattle.ppp_secrets.specs.Lookup.{line_for}
 use Rattle.ppp_fsm.specs.Fsm.{acts_of, after}
 use Rattle.ppp_packet.specs.OptionList.{items_of, read_options}

@@ -1,6 +1,5 @@
-use Rattle.std.proofs.Common.{refl, ap, ◌∙◌}
-use Rattle.ppp_base.specs.declared.protocol.TheConstants.{PAP, CHAP}
-use Rattle.ppp_link.specs.Phase.{OfAuth, OfOtherAuth, kind_of, treatment}
+use Rattle.std.proofs.Common.{refl}
+use Rattle.ppp_link.specs.Phase.{kind_of}
 use Rattle.ppp_link.proofs.PhaseLemmas.{network_alone, lcp_always, other_never}
 use Rattle.ppp_link.proofs.laws.the_table_of_phases.Goals as goal
 
