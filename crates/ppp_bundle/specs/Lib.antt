@@ -7,3 +7,16 @@ pub use Rattle.ppp_mark.specs.ScriptLog
 pub use Rattle.ppp_mark.specs.Scripts
 pub mod Acts
 pub mod Bare
+pub mod Member
+pub mod State
+pub mod ScriptParts
+pub mod Replay
+pub mod Closing
+pub mod Sends
+pub mod IpCalls
+pub mod Fits
+pub mod Frames
+pub mod Gathers
+pub mod UnitPart
+pub mod Sound
+pub mod Rows

@@ -10,3 +10,4 @@ pub mod FileWords
 pub mod Front
 pub mod Told
 pub mod Walk
+pub mod Said

@@ -1,5 +1,5 @@
 -- The words of a text without their lines.
-use Rattle.std.specs.Prelude.{◌≡◌, ℕ, List, map, Option, None, Some, Result, Ok, Err}
+use Rattle.std.specs.Prelude.{◌≡◌, ℕ, List, map, Option, Result, Ok, Err}
 use Rattle.std.specs.Global.{Vec}
 use Rattle.ppp_words.specs.PlacedWord.{PlacedWord}
 use Rattle.ppp_words.specs.Front.{Front}

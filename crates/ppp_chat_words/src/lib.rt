@@ -7,6 +7,7 @@
 
 mod file;
 mod keyword;
+pub mod laws;
 mod options;
 mod splitting;
 

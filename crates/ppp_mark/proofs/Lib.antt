@@ -1,3 +1,4 @@
 pub mod LawLemmas
 pub mod ReportLemmas
 pub mod ScriptLemmas
+pub mod LinesLemmas

@@ -11,3 +11,4 @@ pub mod Log
 pub mod Scripts
 pub mod ScriptLog
 pub mod Report
+pub mod Lines

@@ -36,3 +36,14 @@ pub fn a_life()
         ≡ mark 8 8 0 0 2 ∷ mark 7 7 2 0 1 ∷ mark 7 38 0 0 1 ∷ mark 6 8 0 0 1 ∷ mark 5 7 1 0 1 ∷ mark 5 35 0 0 1 ∷ [] }
     ensures of_link { (log_opened (Link 1) 5 (no_marks 100)).past ≡ mark 5 7 1 0 1 ∷ mark 5 5 0 0 1 ∷ [] }
 {}
+
+/// The law of site scripts holds of that life, and some starts and ends it refuses: a start that is neither up nor down,
+/// the end of another job, a down for another opening, a second start before the end of the first. The newest mark comes
+/// first.
+pub fn what_the_law_says()
+    ensures life { LogLaw 0 (mark 8 8 0 0 2 ∷ mark 7 7 2 0 1 ∷ mark 7 38 0 0 1 ∷ mark 6 8 0 0 1 ∷ mark 5 7 1 0 1 ∷ mark 5 35 0 0 1 ∷ []) }
+    ensures direction { LogLaw 0 (mark 5 7 3 0 1 ∷ mark 5 35 0 0 1 ∷ []) → ⊥ }
+    ensures job { LogLaw 0 (mark 6 8 0 0 2 ∷ mark 5 7 1 0 1 ∷ mark 5 35 0 0 1 ∷ []) → ⊥ }
+    ensures opening { LogLaw 0 (mark 7 7 2 0 2 ∷ mark 7 38 0 0 1 ∷ mark 6 8 0 0 1 ∷ mark 5 7 1 0 1 ∷ mark 5 35 0 0 1 ∷ []) → ⊥ }
+    ensures second { LogLaw 0 (mark 5 7 1 0 1 ∷ mark 5 7 1 0 1 ∷ mark 5 35 0 0 1 ∷ []) → ⊥ }
+{}

@@ -6,9 +6,10 @@
 
 pub mod kind;
 pub mod laws;
+pub mod lines;
 mod log;
 mod mark;
-mod name;
+pub mod name;
 mod report;
 mod script_log;
 #[cfg(test)]

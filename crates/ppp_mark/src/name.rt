@@ -4,7 +4,7 @@ ghost use Rattle.ppp_mark.specs.Table.{is_kind, name_of};
 use crate::kind;
 
 /// The name of a kind of marks, as reports have it.
-pub(crate) fn name(mark: u8) -> &'static [u8]
+pub fn name(mark: u8) -> &'static [u8]
     requires { is_kind mark ≡ true }
     ensures { result.now ≡ name_of mark }
 {

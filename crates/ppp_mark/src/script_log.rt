@@ -318,28 +318,32 @@ impl<S: Spawner> ScriptLog<S> {
 
     /// How many marks may still be added.
     pub fn room(&self) -> u32
-        ensures { result ≡ room_of self.now.log }
+        ensures value { result ≡ room_of self.now.log }
+        ensures stands { IsKept self.now.machine self.now.log }
     {
         self.log.room()
     }
 
     /// The number of the opening that is open.
     pub fn now_open(&self) -> Option<u32>
-        ensures { result ≡ open_in (said_in self.now.log.past) }
+        ensures value { result ≡ open_in (said_in self.now.log.past) }
+        ensures stands { IsKept self.now.machine self.now.log }
     {
         self.machine.now_open()
     }
 
     /// The number of the job that runs, from its start to its end.
     pub fn running(&self) -> Option<u32>
-        ensures { result ≡ running_in (said_in self.now.log.past) }
+        ensures value { result ≡ running_in (said_in self.now.log.past) }
+        ensures stands { IsKept self.now.machine self.now.log }
     {
         self.machine.running()
     }
 
     /// The last start.
     pub fn last(&self) -> Option<HookStart>
-        ensures { option_map (λ (s : HookStart). (s.up, s.opening)) result ≡ last_in (said_in self.now.log.past) }
+        ensures value { option_map (λ (s : HookStart). (s.up, s.opening)) result ≡ last_in (said_in self.now.log.past) }
+        ensures stands { IsKept self.now.machine self.now.log }
     {
         self.machine.last()
     }
@@ -348,6 +352,7 @@ impl<S: Spawner> ScriptLog<S> {
     pub fn starts(&self) -> u32
         ensures value { result ≡ starts_in (said_in self.now.log.past) }
         ensures few { result ≤ length self.now.log.past }
+        ensures stands { IsKept self.now.machine self.now.log }
     {
         self.machine.starts()
     }
@@ -356,6 +361,7 @@ impl<S: Spawner> ScriptLog<S> {
     pub fn ends(&self) -> u32
         ensures value { result ≡ ends_in (said_in self.now.log.past) }
         ensures one_at_a_time { (result ≤ starts_in (said_in self.now.log.past)) × (starts_in (said_in self.now.log.past) ≤ result + 1) }
+        ensures stands { IsKept self.now.machine self.now.log }
     {
         self.machine.ends()
     }

@@ -85,7 +85,7 @@ none_above (p ∷ kept) n le =
     let h : piece_at n kept ≡ None = none_above kept n (omega arith) in
     rw (f, h) refl
 
-rest_at : (mrru bound : ℕ) (s : Gathering) (len : ℕ) → Begun s.kept s.least len → behind s len ≡ None → bound ≤ s.least + len → AtRest mrru bound s
+pub rest_at : (mrru bound : ℕ) (s : Gathering) (len : ℕ) → Begun s.kept s.least len → behind s len ≡ None → bound ≤ s.least + len → AtRest mrru bound s
 rest_at mrru bound s len begun none le = λ other begun'. elim (cases_lt other len) [
   | inl before ↦
       let t = begun other before in
@@ -129,7 +129,7 @@ one_next mrru bound s len (Some p) begun there = elim (pieces_next mrru bound s 
   | inr inside ↦ inr inside
 ]
 
-begun_more : (kept : List Piece) (least len : ℕ) → Begun kept least len → IsInside kept least len → Begun kept least (suc len)
+pub begun_more : (kept : List Piece) (least len : ℕ) → Begun kept least len → IsInside kept least len → Begun kept least (suc len)
 begun_more kept least len begun inside = λ i below. elim (cases_lt i len) [
   | inl before ↦ begun i before
   | inr same ↦ let e : len ≡ i = omega arith in subst (λ (n : ℕ). IsInside kept least n) e inside

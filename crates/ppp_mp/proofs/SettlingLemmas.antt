@@ -94,7 +94,7 @@ loses_none mid =
     let lost : mid.lost + 0 ≡ mid.lost = omega arith in
     ap (λ a. set a (mid.lost + 0)) least ∙ ap (λ b. set mid.least b) lost
 
-misses_rules : (mrru below : ℕ) (s mid : Gathering) (before k : ℕ) → Rules mrru below s before mid → ((i : ℕ) → i < k → piece_at (mid.least + i) mid.kept ≡ None) → mid.least + k ≤ below
+pub misses_rules : (mrru below : ℕ) (s mid : Gathering) (before k : ℕ) → Rules mrru below s before mid → ((i : ℕ) → i < k → piece_at (mid.least + i) mid.kept ≡ None) → mid.least + k ≤ below
     → (count : ℕ) × Rules mrru below s count (loses mid k)
 misses_rules mrru below s mid before zero rules none le = (before, subst (λ (x : Gathering). Rules mrru below s before x) (sym (loses_none mid)) rules)
 misses_rules mrru below s mid before (suc k) rules none le =

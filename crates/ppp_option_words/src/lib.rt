@@ -17,6 +17,8 @@ mod kind;
 pub mod laws;
 mod link_config;
 mod number;
+#[cfg(test)]
+mod tests;
 mod text;
 mod value;
 

@@ -1,5 +1,5 @@
 -- What a source gave, against what it held.
-use Rattle.std.proofs.Common.{◌≡◌, ℕ, ◌+◌, ◌*◌, ◌<◌, ◌≤◌, ◌⊎◌, List, [], ◌∷◌, ◌++◌, length, get_or, refl, sym, ap, ◌∙◌, arith, inl, inr, append_assoc, append-nil}
+use Rattle.std.proofs.Common.{◌≡◌, ℕ, ◌+◌, ◌*◌, ◌<◌, ◌≤◌, ◌⊎◌, List, [], ◌∷◌, ◌++◌, length, get_or, refl, sym, ap, ◌∙◌, subst, arith, inl, inr, append_assoc, append-nil}
 use Rattle.std.specs.Prelude.{Option, Some, None, codes, Bool, true, false, IsTrue}
 use Rattle.std.specs.Bool.{OnFalse, OnTrue}
 use Rattle.std.specs.List.{flat_map}
@@ -15,7 +15,12 @@ use Rattle.ppp_trace.specs.Steps.{word_of_step}
 use Rattle.ppp_trace.specs.declared.TheConstants.{MOST_OCTETS}
 use Rattle.ppp_trace.specs.declared.fault.BadTrace.{BadTrace}
 use Rattle.ppp_trace.specs.declared.step.BareStep.{BareStep}
-use Rattle.ppp_replay.specs.Run.{BeginsFull, IsFull, IsInputFault, ReadsInput, Refuses, WritesFault}
+use Rattle.ppp_report.specs.BadLine.{IsLawfulReport}
+use Rattle.ppp_replay.specs.Run.{BeginsFull, Ends, IsBadAt, IsFull, IsInputFault, IsStatusOf, ReadsInput, Refuses, WritesFault, status_of}
+use Rattle.ppp_replay.specs.declared.run.Ending.{Ending}
+use Rattle.ppp_replay.specs.declared.run.Ending.TheVariants as ending
+use Rattle.ppp_replay.specs.declared.run.Task.{Task}
+use Rattle.ppp_replay.specs.declared.run.Task.TheVariants as task
 
 -- ---- a trace is no other input
 
@@ -115,3 +120,46 @@ not_full false P f e p = absurd (cc (f p))
 pub either_way : (b : Bool) (P Q : Type 0) → OnTrue b P → OnFalse b Q → P ⊎ Q
 either_way true P Q p q = inl p
 either_way false P Q p q = inr q
+
+bad_grows : (all octets : List ℕ) (n : ℕ) → Known all octets → IsBadAt octets n → IsBadAt all n
+bad_grows all octets n k bad = elim k.enough [
+  | inl none ↦ let same : octets ≡ all = sym (append-nil octets) ∙ ap (λ xs. octets ++ xs) (sym none) ∙ sym k.is in subst (λ o. IsBadAt o n) same bad
+  | inr long ↦ elim bad [
+    | inl size ↦ inl (omega (arith, size.0, ap length k.is, length-append octets k.rest), size.1)
+    | inr line ↦ absurd (omega (arith, line.0, long))
+  ]
+]
+
+-- what an ending says of all that the source held
+pub complete_of : (t : Option Task) (e : Ending) (old new : SourceState) (before after : SinkState) (all : List ℕ) → Ends t e old new before after
+    → old.left ≡ Some all → IsStatusOf t all (status_of e)
+complete_of None ending.OtherWords old new before after all ends known = refl
+complete_of None ending.Done old new before after all ends known = absurd ends
+complete_of None ending.Refused old new before after all ends known = absurd ends
+complete_of None ending.FullTrace old new before after all ends known = absurd ends
+complete_of None ending.NoMemory old new before after all ends known = absurd ends
+complete_of None ending.SourceFailed old new before after all ends known = absurd ends
+complete_of None ending.SinkFailed old new before after all ends known = absurd ends
+complete_of (Some task.Replay) ending.OtherWords old new before after all ends known = absurd ends
+complete_of (Some task.Replay) ending.NoMemory old new before after all ends known = inl refl
+complete_of (Some task.Replay) ending.SourceFailed old new before after all ends known = inr (inl refl)
+complete_of (Some task.Replay) ending.FullTrace old new before after all ends known = inr (inr (inl (refl, full_known old new before after all ends known)))
+complete_of (Some task.Replay) ending.Refused old new before after all ends known =
+    let refused = refused_known old new before after all ends known in
+    inr (inr (inr (inl (refl, refused.0, λ steps trace. trace_no_fault all steps refused.1.0 trace refused.1.1))))
+complete_of (Some task.Replay) ending.Done old new before after all ends known =
+    inr (inr (inr (inr (inl refl, (ends.steps, subst (λ o. IsBareTrace o ends.steps) (whole_is old new all ends.octets ends.read.all known) ends.read.trace)))))
+complete_of (Some task.Replay) ending.SinkFailed old new before after all ends known =
+    inr (inr (inr (inr (inr refl, (ends.steps, subst (λ o. IsBareTrace o ends.steps) (whole_is old new all ends.octets ends.read.all known) ends.read.trace)))))
+complete_of (Some task.Check) ending.OtherWords old new before after all ends known = absurd ends
+complete_of (Some task.Check) ending.NoMemory old new before after all ends known = inl refl
+complete_of (Some task.Check) ending.SourceFailed old new before after all ends known = inr (inl refl)
+complete_of (Some task.Check) ending.FullTrace old new before after all ends known = absurd ends
+complete_of (Some task.Check) ending.Refused old new before after all ends known =
+    inr (inr (inl (refl, (ends.line, bad_grows all ends.octets ends.line (known_is old new all ends.octets ends.read known) ends.bad))))
+complete_of (Some task.Check) ending.Done old new before after all ends known =
+    let same : ends.octets ≡ all = whole_is old new all ends.octets ends.read.all known in
+    inr (inr (inr (inl refl, subst (λ o. length o ≤ MOST_OCTETS) same ends.read.small, subst (λ o. IsLawfulReport o) same ends.read.lawful)))
+complete_of (Some task.Check) ending.SinkFailed old new before after all ends known =
+    let same : ends.octets ≡ all = whole_is old new all ends.octets ends.read.all known in
+    inr (inr (inr (inr refl, subst (λ o. length o ≤ MOST_OCTETS) same ends.read.small, subst (λ o. IsLawfulReport o) same ends.read.lawful)))

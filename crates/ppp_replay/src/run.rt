@@ -1,26 +1,36 @@
-ghost use Rattle.std.specs.Prelude.{◌≡◌, ◌≢◌, ◌↔◌, ◌⊎◌, ◌<◌, ◌≤◌, ◌+◌, ◌^◌, [], List, ℕ, Some, IsTrue};
-ghost use Rattle.ppp_outside.specs.Counts.{Rose};
-ghost use Rattle.ppp_outside.specs.Writing.{Rests};
-ghost use Rattle.ppp_trace.specs.BareTrace.{IsBareTrace};
+ghost use Rattle.std.specs.Prelude.{◌≡◌, ◌↔◌, ◌⊎◌, ◌<◌, ◌≤◌, ◌+◌, ◌^◌, List, ℕ, Some, IsTrue, map};
+ghost use Rattle.std.specs.Bool.{OnFalse, OnTrue};
+ghost use Rattle.std.specs.String.{string_bytes};
+ghost use Rattle.ppp_outside.specs.Writing.{Breaks, Writes};
 ghost use Rattle.ppp_trace.specs.declared.TheConstants.{MOST_OCTETS};
-ghost use Rattle.ppp_trace.specs.declared.fault.BadTrace.{BadTrace};
-ghost use Rattle.ppp_trace.specs.declared.step.BareStep.{BareStep};
-ghost use Rattle.ppp_replay.specs.BareRun.{Headline};
-ghost use Rattle.ppp_replay.specs.Run.{BeginsFull, BreaksOff, Ends, IsFull, IsInputFault, IsStatus, Refuses, Replays, WritesFault, size_fault};
+ghost use Rattle.ppp_replay.specs.Run.{Answers, BeginsFull, Ends, IsStatusOf, WritesFault, bad_line, task_of};
+ghost use Rattle.ppp_replay.specs.declared.run.Task.TheVariants.{Check, Replay};
 
 use crate::player::Player;
 use crate::text::put_text;
-use ppp_outside::{Sink, Source, Whole, read_whole, write_whole};
+use ppp_outside::{Sink, Source, TextWriter, Whole, read_whole, write_whole};
+use ppp_report::check_report;
 use ppp_trace::{BadTrace, FaultKind, MOST_OCTETS, TraceFault, fault_text, read_bare};
 use std::alloc::Global;
 
-/// How a replay ended.
+/// What the words of the command line ask for.
+#[derive(Clone, Copy, Debug, PartialEq, Eq)]
+pub enum Task {
+    /// No words: a trace is replayed.
+    Replay,
+    /// `-c`: a report is checked.
+    Check,
+}
+
+/// How the program ended.
 #[derive(Clone, Copy, Debug, PartialEq, Eq)]
 pub enum Ending {
-    /// The trace was replayed.
-    Replayed,
-    /// The input is no trace.
-    NoTrace,
+    /// The trace was replayed, or the report is lawful.
+    Done,
+    /// The words ask for nothing that is known.
+    OtherWords,
+    /// The input is no trace, or no lawful report.
+    Refused,
     /// The input begins as a full trace, which isn't known yet.
     FullTrace,
     /// Memory ran out.
@@ -29,6 +39,23 @@ pub enum Ending {
     SourceFailed,
     /// The sink failed.
     SinkFailed,
+}
+
+// What the words ask for.
+fn task_of(words: &[String]) -> Option<Task>
+    ensures { result ≡ task_of (map string_bytes words.now) }
+{
+    match words {
+        [] => Some(Task::Replay),
+        [word] => {
+            if word.as_bytes() == b"-c".as_slice() {
+                Some(Task::Check)
+            } else {
+                None
+            }
+        }
+        _ => None,
+    }
 }
 
 // Whether the first line begins with `full`.
@@ -40,17 +67,17 @@ fn begins_full(octets: &[u8]) -> bool
 
 // Writes the line of a fault, as far as the sink takes it.
 fn refuse<O: Sink>(output: &mut O, bad: BadTrace) -> Ending
-    ensures ending { result ≡ Ending.NoTrace }
+    ensures ending { result ≡ Ending.Refused }
     ensures line { WritesFault (O.state output.old) (O.state output.new) bad }
 {
     let _ = write_whole(output, fault_text(bad).as_slice());
-    Ending::NoTrace
+    Ending::Refused
 }
 
 // Reads a trace, and writes its text.
 fn replay<I: Source, O: Sink>(alloc: Global, input: &mut I, output: &mut O) -> Ending
     ensures bounded { (I.state input.new).taken ≤ (I.state input.old).taken + MOST_OCTETS + 1 }
-    ensures ends { Ends result (I.state input.old) (I.state input.new) (O.state output.old) (O.state output.new) }
+    ensures ends { Ends (Some Replay) result (I.state input.old) (I.state input.new) (O.state output.old) (O.state output.new) }
 {
     let octets = match read_whole(alloc, input, MOST_OCTETS) {
         Ok(Whole::Octets(octets)) => octets,
@@ -81,19 +108,74 @@ fn replay<I: Source, O: Sink>(alloc: Global, input: &mut I, output: &mut O) -> E
         return Ending::NoMemory;
     };
     if put_text(output, player, &steps) {
-        Ending::Replayed
+        Ending::Done
     } else {
         Ending::SinkFailed
     }
 }
 
-/// Reads a bare trace to its end, and writes the line of each step. Answers the status of the program:
+// Writes the line that names a bad line of a report, as far as the sink takes it.
+fn name_bad<O: Sink>(output: &mut O, line: u64) -> Ending
+    ensures ending { result ≡ Ending.Refused }
+    ensures line { Writes (O.state output.old) (O.state output.new) (bad_line line) ⊎ Breaks (O.state output.old) (O.state output.new) (bad_line line) }
+{
+    let _ = put_bad(output, line);
+    Ending::Refused
+}
+
+// Writes the line that names a bad line of a report, and answers whether the whole of it was taken.
+fn put_bad<O: Sink>(output: &mut O, line: u64) -> bool
+    ensures whole { OnTrue result (Writes (O.state output.old) (O.state output.new) (bad_line line)) }
+    ensures part { OnFalse result (Breaks (O.state output.old) (O.state output.new) (bad_line line)) }
+{
+    let mut writer = TextWriter::new();
+    writer.put(output, b"line ");
+    writer.put_number(output, line);
+    writer.put(output, b"\n");
+    writer.finish(output)
+}
+
+// Reads a report, and writes whether it is lawful.
+fn check<I: Source, O: Sink>(alloc: Global, input: &mut I, output: &mut O) -> Ending
+    ensures bounded { (I.state input.new).taken ≤ (I.state input.old).taken + MOST_OCTETS + 1 }
+    ensures ends { Ends (Some Check) result (I.state input.old) (I.state input.new) (O.state output.old) (O.state output.new) }
+{
+    let octets = match read_whole(alloc, input, MOST_OCTETS) {
+        Ok(Whole::Octets(octets)) => octets,
+        Ok(Whole::TooLong(_octets)) => return name_bad(output, 0),
+        Ok(Whole::Failed) => return Ending::SourceFailed,
+        Err(_) => return Ending::NoMemory,
+    };
+    if let Err(bad) = check_report(&octets) {
+        return name_bad(output, bad.line);
+    }
+    if write_whole(output, b"lawful\n") {
+        Ending::Done
+    } else {
+        Ending::SinkFailed
+    }
+}
+
+// Does what the words ask for.
+fn run<I: Source, O: Sink>(alloc: Global, words: &[String], input: &mut I, output: &mut O) -> Ending
+    ensures bounded { (I.state input.new).taken ≤ (I.state input.old).taken + MOST_OCTETS + 1 }
+    ensures ends { Ends (task_of (map string_bytes words.now)) result (I.state input.old) (I.state input.new) (O.state output.old) (O.state output.new) }
+{
+    match task_of(words) {
+        Some(Task::Replay) => replay(alloc, input, output),
+        Some(Task::Check) => check(alloc, input, output),
+        None => Ending::OtherWords,
+    }
+}
+
+/// Reads a bare trace to its end, and writes the line of each step; with the word `-c` it reads a report, and writes
+/// `lawful`, or `line N` with the number of its first bad line. Answers the status of the program:
 ///
 /// | Status | Meaning |
 /// |---|---|
-/// | 0 | the trace was replayed |
-/// | 2 | there are words, and none is known |
-/// | 3 | the input is no trace; one line names its first fault |
+/// | 0 | the trace was replayed; the report is lawful |
+/// | 2 | there are other words |
+/// | 3 | the input is no trace, or no lawful report; one line names its first fault |
 /// | 4 | the first line begins with `full`; full traces aren't known yet |
 /// | 32 | memory ran out |
 /// | 33 | the source failed |
@@ -108,55 +190,19 @@ pub fn replay_run<I: Source, O: Sink>(
     requires source_faults { (I.state input.old).faults < 2 ^ 63 }
     requires sink_faults { (O.state output.old).faults < 2 ^ 63 }
 
-    ensures statuses { IsStatus result }
+    // What each status says is one relation, by endings.
+    ensures answers { Answers (map string_bytes words.now) result (I.state input.old) (I.state input.new) (O.state output.old) (O.state output.new) }
 
-    // At most one octet more than a trace may have is read.
+    // At most one octet more than an input may have is read.
     ensures bounded { (I.state input.new).taken ≤ (I.state input.old).taken + MOST_OCTETS + 1 }
 
-    // 0: the input was read to its end and is a trace, its run keeps the headline, and the output is its text.
-    ensures replayed { result ≡ 0 → Replays (I.state input.old) (I.state input.new) (O.state output.old) (O.state output.new) }
-
-    // 2: exactly where there are words, and then nothing is read.
-    ensures other_words { (result ≡ 2) ↔ (words.now ≢ []) }
-    ensures unread { result ≡ 2 → I.state input.new ≡ I.state input.old }
-
-    // 3: only where what was read is no trace, and the line of its first fault says so.
-    ensures refused { result ≡ 3 → Refuses (I.state input.old) (I.state input.new) (O.state output.old) (O.state output.new) }
-
-    // 4: only where what was read begins with `full`.
-    ensures full { result ≡ 4 → IsFull (I.state input.old) (I.state input.new) (O.state output.old) (O.state output.new) }
-
-    // 33: exactly where the source failed.
-    ensures source_failed { result ≡ 33 → Rose (I.state input.old).faults (I.state input.new).faults }
-    ensures source_sound { result ≢ 33 → (I.state input.new).faults ≡ (I.state input.old).faults }
-
-    // 35: only where the sink failed, and then what was written is a front of the trace's text.
-    ensures sink_failed { result ≡ 35 → BreaksOff (I.state input.old) (I.state input.new) (O.state output.old) (O.state output.new) }
-
-    // At 2, 4, 32 and 33 nothing is written.
-    ensures silent { (result ≡ 2) ⊎ ((result ≡ 4) ⊎ ((result ≡ 32) ⊎ (result ≡ 33))) → Rests (O.state output.old) (O.state output.new) }
-
-    // Where the source tells what it holds, 3 and 4 speak of all of it.
-    ensures no_trace_only { result ≡ 3 → (octets : List ℕ) → (I.state input.old).left ≡ Some octets
-        → ¬ BeginsFull octets × ((bad : BadTrace) × IsInputFault octets bad × WritesFault (O.state output.old) (O.state output.new) bad) }
-    ensures full_only { result ≡ 4 → (octets : List ℕ) → (I.state input.old).left ≡ Some octets → BeginsFull octets }
-
-    // And then a trace is replayed, and what is none is refused, unless memory runs out or the outside fails.
-    ensures complete { words.now ≡ [] → ¬ Rose (I.state input.old).faults (I.state input.new).faults
-        → ¬ Rose (O.state output.old).faults (O.state output.new).faults
-        → (octets : List ℕ) (steps : List BareStep) → (I.state input.old).left ≡ Some octets → IsBareTrace octets steps → (result ≡ 0) ⊎ (result ≡ 32) }
-    ensures no_trace { words.now ≡ [] → ¬ Rose (I.state input.old).faults (I.state input.new).faults
-        → (octets : List ℕ) (bad : BadTrace) → (I.state input.old).left ≡ Some octets → ¬ BeginsFull octets → IsInputFault octets bad
-        → (result ≡ 3) ⊎ (result ≡ 32) }
-    ensures full_always { words.now ≡ [] → ¬ Rose (I.state input.old).faults (I.state input.new).faults
-        → (octets : List ℕ) → (I.state input.old).left ≡ Some octets → BeginsFull octets → (result ≡ 4) ⊎ (result ≡ 32) }
+    // Where the source tells what it holds, the status is one that all of it has.
+    ensures complete { (octets : List ℕ) → (I.state input.old).left ≡ Some octets → IsStatusOf (task_of (map string_bytes words.now)) octets result }
 {
-    if !words.is_empty() {
-        return 2;
-    }
-    match replay(alloc, input, output) {
-        Ending::Replayed => 0,
-        Ending::NoTrace => 3,
+    match run(alloc, words, input, output) {
+        Ending::Done => 0,
+        Ending::OtherWords => 2,
+        Ending::Refused => 3,
         Ending::FullTrace => 4,
         Ending::NoMemory => 32,
         Ending::SourceFailed => 33,

@@ -4,9 +4,11 @@ use ppp_outside::{MemorySink, MemorySource};
 use std::alloc::Global;
 use std::test::Fail;
 
-// The status and the output for an input that comes in pieces, where these calls of the source and the sink fail.
-fn replayed(
+// The status and the output for these words and an input that comes in pieces, where these calls of the source and the
+// sink fail.
+fn ran(
     alloc: Global,
+    words: &[&str],
     input: &str,
     source_fails: &[u64],
     sink_fails: &[u64],
@@ -14,9 +16,21 @@ fn replayed(
     let octets = Vec::from_slice(alloc, input.as_bytes())?;
     let mut source = MemorySource::new(octets, 7, Vec::from_slice(alloc, source_fails)?);
     let mut sink = MemorySink::new(alloc, 4096, 5, Vec::from_slice(alloc, sink_fails)?)?;
-    let words = Vec::new(alloc);
-    let status = replay_run(alloc, &words, &mut source, &mut sink);
+    let mut strings = Vec::new(alloc);
+    for word in words {
+        strings.push(String::from_str(alloc, word)?)?;
+    }
+    let status = replay_run(alloc, &strings, &mut source, &mut sink);
     Ok((status, Vec::from_slice(alloc, sink.written())?))
+}
+
+fn replayed(
+    alloc: Global,
+    input: &str,
+    source_fails: &[u64],
+    sink_fails: &[u64],
+) -> Result<(u8, Vec<u8>), NoMemory> {
+    ran(alloc, &[], input, source_fails, sink_fails)
 }
 
 #[test]
@@ -103,11 +117,44 @@ fn tells_faults(rt: HostRuntime) -> Result<(), Fail> {
 
 #[test]
 fn refuses_words(rt: HostRuntime) -> Result<(), Fail> {
-    let alloc = rt.alloc();
-    let words = vec![in alloc; String::from_str(alloc, "-c")?]?;
-    let mut source = MemorySource::new(Vec::new(alloc), 1, Vec::new(alloc));
-    let mut sink = MemorySink::new(alloc, 16, 1, Vec::new(alloc))?;
-    assert_eq!(rt; replay_run(alloc, &words, &mut source, &mut sink), 2);
-    assert!(rt; sink.written().is_empty());
+    let rows: [&[&str]; 4] = [&["-x"], &["-c", "-c"], &["-c "], &[""]];
+    for words in rows {
+        let (answer, written) = ran(rt.alloc(), words, "end\n", &[], &[])?;
+        assert_eq!(rt; answer, 2);
+        assert!(rt; written.is_empty());
+    }
+    Ok(())
+}
+
+#[test]
+fn checks_reports(rt: HostRuntime) -> Result<(), Fail> {
+    let rows: [(&str, &[u64], &[u64], u8, &str); 9] = [
+        (
+            "link 1\n0 attempt 0 0 1\nstatus none\nend\n",
+            &[],
+            &[],
+            3,
+            "line 3\n",
+        ),
+        ("link 1\nstatus 5\nend\n", &[], &[], 0, "lawful\n"),
+        ("end\n", &[], &[], 0, "lawful\n"),
+        (
+            "unit 0\n0 ip-open 0 0 1\n0 start 1 0 1\n0 start 1 0 1\n",
+            &[],
+            &[],
+            3,
+            "line 4\n",
+        ),
+        ("unit 0\nend\n", &[], &[], 3, "line 2\n"),
+        ("end\n", &[1], &[], 33, ""),
+        ("end\n", &[], &[2], 35, "lawfu"),
+        ("unit 0\nend\n", &[], &[1], 3, ""),
+        ("unit 0\nend\n", &[], &[2], 3, "line "),
+    ];
+    for (input, source_fails, sink_fails, status, output) in rows {
+        let (answer, written) = ran(rt.alloc(), &["-c"], input, source_fails, sink_fails)?;
+        assert_eq!(rt; answer, status, "at {input:?}");
+        assert_eq!(rt; written.as_slice(), output.as_bytes(), "at {input:?}");
+    }
     Ok(())
 }

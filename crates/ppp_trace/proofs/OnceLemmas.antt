@@ -15,10 +15,11 @@ use Rattle.ppp_trace.specs.declared.step.BareStep.{BareStep}
 use Rattle.ppp_trace.specs.declared.step.BareStep.TheVariants as steps
 use Rattle.ppp_trace.specs.BareTrace.{AreSteps, IsBareTrace}
 use Rattle.ppp_trace.specs.FirstFault.{FirstFault, IsWrong, rank}
-use Rattle.ppp_trace.specs.Lines.{lines_of}
+use Rattle.ppp_mark.specs.Lines.{lines_of}
 use Rattle.ppp_trace.specs.Words.{word_of}
 use Rattle.ppp_trace.specs.Steps.{IsAnswer, IsStep, word_of_answer, word_of_step}
-use Rattle.ppp_trace.proofs.StepLemmas.{end_word, event_of, is_free, is_word, line_alone, line_then, number_word, step_is_word, word_is_clean, word_is_read}
+use Rattle.ppp_trace.proofs.StepLemmas.{end_word, event_of, step_is_word, word_is_read}
+use Rattle.ppp_mark.proofs.LinesLemmas.{is_word, line_alone, line_then, number_word, split_one, word_is_clean}
 use Rattle.ppp_trace.proofs.TraceLemmas.{right_before, some_lines}
 
 spelled_lines : (line : List ℕ) (ss : List BareStep) → is_word line ≡ true → AreSteps ss → lines_of (line ++ flat_map (λ s. 10 ∷ word_of_step s) ss) ≡ line ∷ map word_of_step ss
@@ -109,32 +110,6 @@ no_end e job answer same =
     let wrong : eqb 32 32 ≡ false = subst (λ x. eqb x 32 ≡ false) space (fourth e) in
     let plain : true ≡ false = wrong in
     cc
-
-split_one : (octet : ℕ) (xs ys us vs : List ℕ) → is_free octet xs ≡ true → is_free octet ys ≡ true → xs ++ octet ∷ us ≡ ys ++ octet ∷ vs → (xs ≡ ys) × (us ≡ vs)
-split_one octet [] [] us vs fx fy e = (refl, ap (drop 1) e)
-split_one octet [] (y ∷ ys) us vs fx fy e =
-    let head : octet ≡ y = ap (λ l. get_or l 0 0) e in
-    elim (eqb_tells y octet) [
-      | inl p ↦ let wrong = rw p.0 at fy in cc
-      | inr p ↦ absurd (p.1 (sym head))
-    ]
-split_one octet (x ∷ xs) [] us vs fx fy e =
-    let head : x ≡ octet = ap (λ l. get_or l 0 0) e in
-    elim (eqb_tells x octet) [
-      | inl p ↦ let wrong = rw p.0 at fx in cc
-      | inr p ↦ absurd (p.1 head)
-    ]
-split_one octet (x ∷ xs) (y ∷ ys) us vs fx fy e =
-    let head : x ≡ y = ap (λ l. get_or l 0 0) e in
-    elim (eqb_tells x octet) [
-      | inl p ↦ let wrong = rw p.0 at fx in cc
-      | inr p ↦ elim (eqb_tells y octet) [
-        | inl q ↦ let wrong = rw q.0 at fy in cc
-        | inr q ↦
-            let rest = split_one octet xs ys us vs (rw p.0 at fx) (rw q.0 at fy) (ap (drop 1) e) in
-            (ap₂ (λ z zs. z ∷ zs) head rest.0, rest.1)
-      ]
-    ]
 
 answer_one : (a b : ScriptEnd) → IsAnswer a → IsAnswer b → word_of_answer a ≡ word_of_answer b → a ≡ b
 answer_one (Exit m) (Exit n) ha hb e = ap Exit (decimal_injective m n (omega (arith, ha)) (omega (arith, hb)) (ap (drop 5) e))

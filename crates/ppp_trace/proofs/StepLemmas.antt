@@ -17,7 +17,8 @@ use Rattle.ppp_trace.specs.declared.step.BareStep.{BareStep}
 use Rattle.ppp_trace.specs.declared.step.BareStep.TheVariants as steps
 use Rattle.ppp_trace.specs.Words.{word_of}
 use Rattle.ppp_trace.specs.Steps.{IsAnswer, IsNoStep, IsStep, Spells, word_of_answer, word_of_step}
-use Rattle.ppp_trace.specs.Lines.{lines_of, onto_first}
+use Rattle.ppp_mark.specs.Lines.{lines_of, onto_first}
+use Rattle.ppp_mark.proofs.LinesLemmas.{free_append, is_free, is_word, number_line, number_word, place_is, no_lines}
 
 -- lines with a newline between each two
 abbrev pub joined : List (List ℕ) → List ℕ
@@ -35,17 +36,6 @@ joins_newline bs (line ∷ lines) empty joins = elim joins [ inl e ↦ inl (ap (
 joins_onto : (b : ℕ) (bs : List ℕ) (lines : List (List ℕ)) → (lines ≡ [] → bs ≡ []) → Joins bs lines → Joins (b ∷ bs) (onto_first b lines)
 joins_onto b bs [] empty joins = inl (ap (λ xs. b ∷ xs) (empty refl))
 joins_onto b bs (line ∷ lines) empty joins = elim joins [ inl e ↦ inl (ap (λ xs. b ∷ xs) e) | inr e ↦ inr (ap (λ xs. b ∷ xs) e) ]
-
-onto_first_some : (b : ℕ) (lines : List (List ℕ)) → onto_first b lines ≡ [] → ⊥
-onto_first_some b [] e = cc
-onto_first_some b (line ∷ lines) e = cc
-
-no_lines : (xs : List ℕ) → lines_of xs ≡ [] → xs ≡ []
-no_lines [] e = refl
-no_lines (b ∷ bs) e = elim (eqb_tells b 10) [
-  | inl p ↦ let wrong = rw p.0 at e in cc
-  | inr p ↦ absurd (onto_first_some b (lines_of bs) (rw p.0 at e))
-]
 
 -- A text is the lines that it has.
 pub joins_lines : (xs : List ℕ) → Joins xs (lines_of xs)
@@ -98,80 +88,6 @@ no_step line none ends (steps.Event e) spells =
     let found : event_of line ≡ Some e = subst (λ l. event_of l ≡ Some e) (sym spells.word) (word_is_read e) in
     cc
 no_step line none ends (steps.End job answer) spells = ends job answer spells
-
--- none of the octets is this one
-abbrev pub is_free : ℕ → List ℕ → Bool
-is_free octet [] = true
-is_free octet (b ∷ bs) = cond (eqb b octet) false (is_free octet bs)
-
-free_append : (octet : ℕ) (xs ys : List ℕ) → is_free octet xs ≡ true → is_free octet ys ≡ true → is_free octet (xs ++ ys) ≡ true
-free_append octet [] ys front back = back
-free_append octet (b ∷ bs) ys front back = elim (eqb_tells b octet) [
-  | inl p ↦ let wrong = rw p.0 at front in cc
-  | inr p ↦ rw p.0 (free_append octet bs ys (rw p.0 at front) back)
-]
-
-digits_free : (octet : ℕ) → (digit_value octet < 10 → ⊥) → (ds : List ℕ) → AllDigits 10 ds → is_free octet ds ≡ true
-digits_free octet other [] digits = refl
-digits_free octet other (d ∷ ds) digits = elim (eqb_tells d octet) [
-  | inl p ↦ absurd (other (subst (λ x. digit_value x < 10) p.1 digits.0))
-  | inr p ↦ rw p.0 (digits_free octet other ds digits.1)
-]
-
-no_newline : digit_value 10 < 10 → ⊥
-no_newline h = omega arith
-
-no_space : digit_value 32 < 10 → ⊥
-no_space h = omega arith
-
--- A number has no newline and no space.
-pub number_line : (n : ℕ) → n < 2 ^ 64 → is_free 10 (decimal n) ≡ true
-number_line n small = digits_free 10 no_newline (decimal n) (decimal_is_IsNumeral n small).0.1
-
-pub number_word : (n : ℕ) → n < 2 ^ 64 → is_free 32 (decimal n) ≡ true
-number_word n small = digits_free 32 no_space (decimal n) (decimal_is_IsNumeral n small).0.1
-
--- where an octet stands first
-pub place_is : (octet : ℕ) (front back : List ℕ) (i : ℕ) → is_free octet front ≡ true → ((k : ℕ) → k < i → get_or (front ++ octet ∷ back) k 0 ≡ octet → ⊥) → i ≤ length (front ++ octet ∷ back) → (i < length (front ++ octet ∷ back) → get_or (front ++ octet ∷ back) i 0 ≡ octet) → i ≡ length front
-place_is octet [] back zero free none within found = refl
-place_is octet [] back (suc i) free none within found = absurd (none 0 (omega arith) refl)
-place_is octet (b ∷ bs) back zero free none within found =
-    elim (eqb_tells b octet) [
-      | inl p ↦ let wrong = rw p.0 at free in cc
-      | inr p ↦ absurd (p.1 (found (omega arith)))
-    ]
-place_is octet (b ∷ bs) back (suc i) free none within found =
-    elim (eqb_tells b octet) [
-      | inl p ↦ let wrong = rw p.0 at free in cc
-      | inr p ↦ ap suc (place_is octet bs back i (rw p.0 at free) (λ k h is. none (suc k) (omega arith) is) (omega arith) (λ h. found (omega arith)))
-    ]
-
--- some octets, and none of them is a newline
-abbrev pub is_word : List ℕ → Bool
-is_word [] = false
-is_word (b ∷ bs) = is_free 10 (b ∷ bs)
-
-pub line_then : (line rest : List ℕ) → is_free 10 line ≡ true → lines_of (line ++ 10 ∷ rest) ≡ line ∷ lines_of rest
-line_then [] rest clean = refl
-line_then (b ∷ bs) rest clean = elim (eqb_tells b 10) [
-  | inl p ↦ let wrong = rw p.0 at clean in cc
-  | inr p ↦ rw (p.0, line_then bs rest (rw p.0 at clean)) refl
-]
-
-pub line_alone : (line : List ℕ) → is_word line ≡ true → lines_of line ≡ line ∷ []
-line_alone [] word = cc
-line_alone (b ∷ []) word = elim (eqb_tells b 10) [
-  | inl p ↦ let wrong = rw p.0 at word in cc
-  | inr p ↦ rw p.0 refl
-]
-line_alone (b ∷ c ∷ bs) word = elim (eqb_tells b 10) [
-  | inl p ↦ let wrong = rw p.0 at word in cc
-  | inr p ↦ rw (p.0, line_alone (c ∷ bs) (rw p.0 at word)) refl
-]
-
-pub word_is_clean : (line : List ℕ) → is_word line ≡ true → is_free 10 line ≡ true
-word_is_clean [] word = refl
-word_is_clean (b ∷ bs) word = word
 
 word_is_word : (e : FsmEvent) → is_word (word_of e) ≡ true
 unfolding word_of
@@ -245,10 +161,6 @@ too_great text n small great is (Exit status) h e =
     omega (arith, n_is, h, great)
 too_great text n small great is Killed h e = let first : 101 ≡ 107 = ap (λ xs. get_or xs 0 0) (sym is ∙ e) in omega (arith, first)
 too_great text n small great is NotStarted h e = let first : 101 ≡ 110 = ap (λ xs. get_or xs 0 0) (sym is ∙ e) in omega (arith, first)
-
--- what follows a place
-pub rest_is : (k : ℕ) (xs : List ℕ) → take (length xs - k) (drop k xs) ≡ drop k xs
-rest_is k xs = ap (λ n. take n (drop k xs)) (sym (length-drop k xs)) ∙ take-length (drop k xs)
 
 -- the number and the answer of a script's end
 pub end_parts : (line words : List ℕ) (at : ℕ) → line ≡ codes "end " ++ words → at ≤ length words → ((k : ℕ) → k < at → get_or words k 0 ≡ 32 → ⊥) → (at < length words → get_or words at 0 ≡ 32) → (job : ℕ) (answer : ScriptEnd) → Spells line (steps.End job answer) → (job < 2 ^ 32) × IsAnswer answer × (take at words ≡ decimal job) × (drop (at + 1) words ≡ word_of_answer answer)

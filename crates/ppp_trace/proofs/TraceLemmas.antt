@@ -9,7 +9,7 @@ use Rattle.ppp_trace.specs.declared.step.BareStep.{BareStep}
 use Rattle.ppp_trace.specs.declared.TheConstants.{MOST_STEPS}
 use Rattle.ppp_trace.specs.BareTrace.{AreSteps, IsBareTrace}
 use Rattle.ppp_trace.specs.FirstFault.{FirstFault, IsWrong, rank}
-use Rattle.ppp_trace.specs.Lines.{lines_of}
+use Rattle.ppp_mark.specs.Lines.{lines_of}
 use Rattle.ppp_trace.specs.Steps.{IsNoStep, IsStep, Spells, word_of_step}
 use Rattle.ppp_trace.proofs.StepLemmas.{Joins, joins_lines, step_is_short}
 

@@ -4,7 +4,7 @@ use Rattle.ppp_trace.specs.declared.fault.BadTrace.{BadTrace}
 use Rattle.ppp_trace.specs.declared.fault.FaultKind.{FaultKind}
 use Rattle.ppp_trace.specs.declared.fault.FaultKind.TheVariants as kind
 use Rattle.ppp_trace.specs.declared.TheConstants.{MOST_LINE, MOST_STEPS}
-use Rattle.ppp_trace.specs.Lines.{lines_of}
+use Rattle.ppp_mark.specs.Lines.{lines_of}
 use Rattle.ppp_trace.specs.Steps.{IsNoStep}
 
 -- Which of two faults of one line is told: the lower one.

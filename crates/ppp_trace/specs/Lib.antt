@@ -1,6 +1,5 @@
 pub mod Words
 pub mod Steps
-pub mod Lines
 pub mod BareTrace
 pub mod FirstFault
 pub mod Reads

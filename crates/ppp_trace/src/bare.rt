@@ -3,7 +3,7 @@ ghost use Rattle.std.specs.List.{find};
 ghost use Rattle.std.specs.Str.{bytes_eq};
 ghost use Rattle.ppp_outside.specs.declared.spawner.ScriptEnd.{ScriptEnd};
 ghost use Rattle.ppp_trace.specs.BareTrace.{IsBareTrace};
-ghost use Rattle.ppp_trace.specs.Lines.{lines_of};
+ghost use Rattle.ppp_mark.specs.Lines.{lines_of};
 ghost use Rattle.ppp_trace.specs.Reads.{Tells};
 ghost use Rattle.ppp_trace.specs.declared.TheConstants.{EVENTS};
 ghost use Rattle.ppp_trace.specs.declared.fault.TraceFault.TheVariants.{Bad};
@@ -12,12 +12,12 @@ ghost use Rattle.ppp_trace.specs.Steps.{IsAnswer, IsNoStep, Spells, word_of_answ
 ghost use Rattle.ppp_trace.specs.Words.{word_of};
 
 use crate::fault::{BadTrace, FaultKind, TraceFault};
-use crate::lines::{first_line, place};
 use crate::step::BareStep;
 use crate::words::{number, word};
 use crate::{EVENTS, MOST_STEPS};
 use ppp_base::NoMemory;
 use ppp_fsm::FsmEvent;
+use ppp_mark::lines::{first_line, place};
 use ppp_outside::ScriptEnd;
 use std::alloc::Global;
 

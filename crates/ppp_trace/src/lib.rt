@@ -8,7 +8,6 @@
 mod bare;
 mod fault;
 pub mod laws;
-mod lines;
 mod step;
 #[cfg(test)]
 mod tests;

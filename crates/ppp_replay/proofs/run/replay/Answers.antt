@@ -1,7 +1,7 @@
 use Rattle.std.proofs.Common.{inl, inr, refl}
 use Rattle.ppp_replay.specs.Run.{size_fault}
 use Rattle.ppp_replay.proofs.HeadlineLemmas.{headline}
-use Rattle.ppp_replay.proofs.RunLemmas.{not_full}
+use Rattle.ppp_replay.proofs.RunLemmas.{not_full, trace_no_fault}
 use Rattle.ppp_replay.proofs.run.replay.Goals as goal
 
 pub returns-in-Ok-TooLong-clause-ends : goal.returns-in-Ok-TooLong-clause-ends
@@ -12,6 +12,7 @@ returns-in-Ok-TooLong-clause-ends g c =
       octets = c.in-Ok-TooLong.octets.items;
       read = record { given = read.0; enough = inr read.1 };
       other = not_full _ _ begins.1 c.if-begins_full.false;
+      none = λ steps trace. trace_no_fault _ steps size_fault trace (inl (read.1, refl));
       bad = size_fault;
       fault = inl (read.1, refl);
       line = c.refuse.ensures.line;
@@ -25,6 +26,7 @@ returns-in-Err-Bad-clause-ends g c =
       octets = c.in-Ok-Octets.octets.items;
       read = record { given = read.0.given; enough = inl read.0.end };
       other = not_full _ _ begins.1 c.if-begins_full-2.false;
+      none = λ steps trace. trace_no_fault _ steps c.in-Err-Bad.bad trace (inr (read.1, rw (c.in-Err-Bad.field-0-is, c.deref-3.ensures.value) at c.in-Err-Bad.ensures));
       bad = c.in-Err-Bad.bad;
       fault = inr (read.1, rw (c.in-Err-Bad.field-0-is, c.deref-3.ensures.value) at c.in-Err-Bad.ensures);
       line = rw c.in-Err-Bad.bad-is at c.refuse-in-Err-Bad.ensures.line;

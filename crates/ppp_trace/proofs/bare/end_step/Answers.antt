@@ -1,7 +1,8 @@
 use Rattle.std.proofs.Common.{◌≡◌, ◌+◌, ◌++◌, ◌∙◌, Some, codes}
 use Rattle.std.specs.Cmp.{unsigned_Decides}
 use Rattle.std.proofs.lemmas.Slice.Eq.{strip_prefix_is}
-use Rattle.ppp_trace.proofs.StepLemmas.{end_parts, rest_is}
+use Rattle.ppp_mark.proofs.LinesLemmas.{rest_is}
+use Rattle.ppp_trace.proofs.StepLemmas.{end_parts}
 use Rattle.ppp_trace.proofs.bare.end_step.Goals as goal
 
 pub returns-in_default : goal.returns-in_default

@@ -1,0 +1,11 @@
+mod LastLemmas
+mod ReadsLemmas
+mod FileLemmas
+mod PlaceLemmas
+mod LinkLemmas
+mod CourseLemmas
+mod ReadLemmas
+mod SectionLemmas
+mod WholeLemmas
+mod Rows
+mod LawLemmas

@@ -1,0 +1,23 @@
+//! The outside for real: the traits of `ppp_outside` over the operating system.
+//!
+//! Each object keeps its counts and tells nothing of content: what stands in a file or goes over a line is the
+//! world's. Want of memory inside a call that has no answer for it is a fault.
+#![tactic(auto)]
+
+mod clock;
+mod dialer;
+mod files;
+mod line_counts;
+mod line_in;
+mod line_out;
+#[cfg(test)]
+mod line_tests;
+mod socket;
+#[cfg(test)]
+mod tests;
+
+pub use clock::RealClock;
+pub use dialer::RealDialer;
+pub use files::RealFiles;
+pub use line_in::RealLineIn;
+pub use line_out::RealLineOut;

@@ -1,0 +1,9 @@
+pub use Rattle.ppp_mark.specs.Lines
+pub use Rattle.ppp_mark.specs.Scripts
+pub use Rattle.ppp_mark.specs.Table
+pub mod Report
+pub mod BadLine
+pub mod Text
+pub mod Tells
+pub mod Reads
+pub mod Places
