@@ -1,0 +1,5 @@
+mod UnchangedLemmas
+mod CountLemmas
+mod PhaseLemmas
+mod OneLineLemmas
+mod SoundLemmas

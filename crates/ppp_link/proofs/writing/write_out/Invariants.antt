@@ -1,0 +1,15 @@
+use Rattle.std.proofs.Common.{length, ◌-◌, ◌≤◌, take}
+use Rattle.ppp_outside.specs.Writing.{Writes}
+use Rattle.ppp_link.proofs.writing.write_out.Given as goal
+
+-- The front of the octets up to this place was written.
+abbrev pub invariant-writing : goal.invariant-writing
+invariant-writing g l =
+    let state = g.O.Sink.state in
+    record {
+      within : l.at ≤ length l.octets;
+      front : Writes (state l.initial.output) (state l.output) (take l.at l.octets);
+    }
+
+abbrev pub decreases-writing : goal.decreases-writing
+decreases-writing g l = length l.octets - l.at
