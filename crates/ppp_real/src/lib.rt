@@ -13,6 +13,9 @@ mod line_out;
 #[cfg(test)]
 mod line_tests;
 mod socket;
+mod spawner;
+#[cfg(test)]
+mod spawner_tests;
 #[cfg(test)]
 mod tests;
 
@@ -21,3 +24,4 @@ pub use dialer::RealDialer;
 pub use files::RealFiles;
 pub use line_in::RealLineIn;
 pub use line_out::RealLineOut;
+pub use spawner::RealSpawner;
