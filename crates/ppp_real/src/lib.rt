@@ -7,6 +7,10 @@
 mod clock;
 mod dialer;
 mod files;
+mod iface_in;
+mod iface_out;
+#[cfg(test)]
+mod iface_tests;
 mod line_counts;
 mod line_in;
 mod line_out;
@@ -22,6 +26,8 @@ mod tests;
 pub use clock::RealClock;
 pub use dialer::RealDialer;
 pub use files::RealFiles;
+pub use iface_in::RealIfaceIn;
+pub use iface_out::RealIfaceOut;
 pub use line_in::RealLineIn;
 pub use line_out::RealLineOut;
 pub use spawner::RealSpawner;
