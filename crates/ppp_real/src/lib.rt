@@ -7,17 +7,27 @@
 mod clock;
 mod dialer;
 mod files;
+mod iface_in;
+mod iface_out;
+#[cfg(test)]
+mod iface_tests;
 mod line_counts;
 mod line_in;
 mod line_out;
 #[cfg(test)]
 mod line_tests;
 mod socket;
+mod spawner;
+#[cfg(test)]
+mod spawner_tests;
 #[cfg(test)]
 mod tests;
 
 pub use clock::RealClock;
 pub use dialer::RealDialer;
 pub use files::RealFiles;
+pub use iface_in::RealIfaceIn;
+pub use iface_out::RealIfaceOut;
 pub use line_in::RealLineIn;
 pub use line_out::RealLineOut;
+pub use spawner::RealSpawner;
