@@ -1,5 +1,6 @@
 -- What a session heard and did, by looking back over all that happened since its attempt, the newest first. Nothing here says in which order the rules of a link
 -- do their work: only what a frame asks, what each call answers, what is due, and which reason each end of a session has.
+-- Open: that every step of `LinkPart` goes on like this (`GoesOn`). So far it is shown of worked sessions (`laws::sessions_look_back`).
 use Rattle.std.specs.Prelude.{ℕ, ◌≡◌, ◌+◌, ◌-◌, ◌*◌, ◌==◌, ◌&&◌, ◌||◌, not, nat_le, nat_lt, Bool, true, false, if◌then◌else◌, Option, None, Some, is_some, is_none, List, [], ◌∷◌, ◌++◌, ⊤, length, map, filter}
 use Rattle.ppp_base.specs.RandomWords.{branch_of, challenge_of, state_after}
 use Rattle.ppp_base.specs.declared.posts.Post.TheVariants.{Member, Refused, Close, Send, Reject, Wake}

@@ -14,6 +14,8 @@ pub mod limits;
 mod piece;
 mod reading;
 pub mod rows;
+#[cfg(test)]
+mod tests;
 mod view;
 mod wishes;
 mod writing;
