@@ -1,3 +1,4 @@
 pub mod Line
 pub mod Spawner
 pub mod Iface
+pub mod Control

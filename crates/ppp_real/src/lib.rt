@@ -5,8 +5,12 @@
 #![tactic(auto)]
 
 mod clock;
+mod control;
+#[cfg(test)]
+mod control_tests;
 mod dialer;
 mod files;
+mod gate;
 mod iface_in;
 mod iface_out;
 #[cfg(test)]
@@ -24,8 +28,10 @@ mod spawner_tests;
 mod tests;
 
 pub use clock::RealClock;
+pub use control::RealControl;
 pub use dialer::RealDialer;
 pub use files::RealFiles;
+pub use gate::RealGate;
 pub use iface_in::RealIfaceIn;
 pub use iface_out::RealIfaceOut;
 pub use line_in::RealLineIn;
