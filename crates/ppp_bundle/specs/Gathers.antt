@@ -4,7 +4,7 @@ use Rattle.ppp_mp.specs.Delivered.{Entry, Gathering, Joins, Leaves, nothing}
 use Rattle.ppp_mp.specs.Header.{fragment_of, long_octets, long_space}
 use Rattle.ppp_mp.specs.StandsFor.{Adds, AddsPiece, StandsFor, with_looks}
 use Rattle.ppp_mp.specs.declared.counts.PieceNow.{PieceNow}
-use Rattle.ppp_mp.specs.declared.facts.GatherFacts.{GatherFacts}
+use Rattle.ppp_mp.specs.StandsFor.{GatherNow}
 
 pub data GatherCall : Type 0 where
   nothing_asked : GatherCall
@@ -15,11 +15,11 @@ pub data GatherCall : Type 0 where
 
 -- what it keeps then, and the packets that it gives, in order
 pub record Gathered : Type 0 where
-  pub gather : GatherFacts
+  pub gather : GatherNow
   pub packets : List (List ℕ)
 
 -- whatever it stood for, it stands for this entry more, and has given these packets by it
-abbrev pub AddsEntry : GatherFacts → Entry → Gathered → Type 0
+abbrev pub AddsEntry : GatherNow → Entry → Gathered → Type 0
 AddsEntry old entry g = (past : List Entry) (s : Gathering) → StandsFor long_space old past s → Adds long_space g.gather past s entry g.packets
 
 pub record Begins (mrru : ℕ) (g : Gathered) : Type 0 where
@@ -27,17 +27,17 @@ pub record Begins (mrru : ℕ) (g : Gathered) : Type 0 where
   pub ours : g.gather.mrru ≡ mrru
   pub none : g.packets ≡ []
 
-pub record TakesPiece (link : ℕ) (information : List ℕ) (old : GatherFacts) (g : Gathered) : Type 0 where
+pub record TakesPiece (link : ℕ) (information : List ℕ) (old : GatherNow) (g : Gathered) : Type 0 where
   pub answer : PieceNow
   pub short : length information < long_octets → (g.gather ≡ with_looks 0 old) × (g.packets ≡ [])
   pub stands : (past : List Entry) (s : Gathering) → StandsFor long_space old past s → long_octets ≤ length information
       → AddsPiece long_space g.gather past s link (fragment_of long_space long_octets information) answer g.packets
 
-pub record Same (old : GatherFacts) (g : Gathered) : Type 0 where
+pub record Same (old : GatherNow) (g : Gathered) : Type 0 where
   pub gather : g.gather ≡ old
   pub none : g.packets ≡ []
 
-abbrev pub Gathers : GatherCall → GatherFacts → Gathered → Type 0
+abbrev pub Gathers : GatherCall → GatherNow → Gathered → Type 0
 Gathers nothing_asked old g = Same old g
 Gathers (begins mrru) old g = Begins mrru g
 Gathers (link_joins link) old g = AddsEntry old (Joins link) g

@@ -8,7 +8,7 @@ use Rattle.ppp_hooks.specs.HookFacts.{no_facts}
 use Rattle.ppp_mark.specs.declared.mark.Mark.{Mark}
 use Rattle.ppp_mark.specs.Log.{marks_of, no_marks}
 use Rattle.ppp_mark.specs.Marks.{in_mark, ip_open_mark, local_mark, made_mark, remote_mark, started_mark}
-use Rattle.ppp_mp.specs.declared.facts.GatherFacts.{GatherFacts}
+use Rattle.ppp_mp.specs.StandsFor.{GatherNow}
 use Rattle.ppp_outside.specs.declared.spawner.ScriptEnd.TheVariants.{Exit}
 use Rattle.ppp_secrets.specs.declared.secrets.SecretsPair.{SecretsPair}
 use Rattle.ppp_bundle.specs.declared.event.BundleEvent.{BundleEvent}
@@ -53,7 +53,7 @@ wish lawful limits idle maxconnect = record {
 }
 
 -- a unit without a bundle
-abbrev pub fresh : GatherFacts → UnitState Silent
+abbrev pub fresh : GatherNow → UnitState Silent
 fresh gather = record {
   unit = 0;
   time = 0;

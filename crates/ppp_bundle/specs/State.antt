@@ -2,7 +2,7 @@
 use Rattle.std.specs.Prelude.{ℕ, ◌==◌, Bool, false, Option, None, Some, List, [], ◌∷◌}
 use Rattle.ppp_base.specs.Mrru.{MrruPair}
 use Rattle.ppp_mark.specs.ScriptLog.{ScriptLogState}
-use Rattle.ppp_mp.specs.declared.facts.GatherFacts.{GatherFacts}
+use Rattle.ppp_mp.specs.StandsFor.{GatherNow}
 use Rattle.ppp_bundle.specs.declared.live.Live.{Live}
 use Rattle.ppp_bundle.specs.declared.member.Member.{Member}
 use Rattle.ppp_bundle.specs.declared.outbox.BundleEnd.{BundleEnd}
@@ -16,7 +16,7 @@ pub record UnitState (S : Type 0) : Type 0 where
   pub time : ℕ
   pub scripts : ScriptLogState S
   pub live : Option Live
-  pub gather : GatherFacts
+  pub gather : GatherNow
   pub sent : List Sending
   pub given : List (List ℕ)
   pub ended : Option BundleEnd

@@ -5,7 +5,7 @@ ghost use Rattle.ppp_base.specs.declared.posts.CloseCause.TheVariants.{Idle, Con
 ghost use Rattle.ppp_base.specs.declared.protocol.TheConstants.{IP, IPCP};
 ghost use Rattle.ppp_fsm.specs.declared.fsm.Limits.{Limits};
 ghost use Rattle.ppp_mark.specs.Marks.{close_mark, ended_mark, in_mark, ip_closed_mark, made_mark, out_mark, started_mark, unmade_mark};
-ghost use Rattle.ppp_mp.specs.declared.facts.GatherFacts.{GatherFacts};
+ghost use Rattle.ppp_mp.specs.StandsFor.{GatherNow};
 ghost use Rattle.ppp_outside.specs.declared.spawner.ScriptEnd.TheVariants.{Exit};
 ghost use Rattle.ppp_bundle.specs.declared.event.BundleEvent.TheVariants.{Datagram, Frame, Out, Tick};
 ghost use Rattle.ppp_bundle.specs.Rows.{Lawful, address, all_of, at_open, begins, first_marks, fresh, marks_in, negotiates, peer_ends, script_ends, ten};
@@ -13,54 +13,54 @@ ghost use Rattle.ppp_bundle.specs.Rows.{Lawful, address, all_of, at_open, begins
 /// A bundle is made and link 1 comes in: the first request goes out. The peer's request and its ack open IP, and the start stands behind
 /// it, before the two addresses.
 pub fn opens()
-    ensures asks { (lawful : Lawful) (limits : Limits) (gather : GatherFacts) → (all_of (begins lawful limits 0 0) (fresh gather)).sent
+    ensures asks { (lawful : Lawful) (limits : Limits) (gather : GatherNow) → (all_of (begins lawful limits 0 0) (fresh gather)).sent
         ≡ record { link = 1; protocol = IPCP; information = 1 ∷ 1 ∷ 0 ∷ 10 ∷ address 1; rejected = false } ∷ [] }
-    ensures marks { (lawful : Lawful) (limits : Limits) (gather : GatherFacts) → marks_in (all_of (begins lawful limits 0 0 ++ negotiates) (fresh gather)) ≡ first_marks ++ at_open 0 }
+    ensures marks { (lawful : Lawful) (limits : Limits) (gather : GatherNow) → marks_in (all_of (begins lawful limits 0 0 ++ negotiates) (fresh gather)) ≡ first_marks ++ at_open 0 }
 {}
 
 /// The peer's Terminate-Request closes IP at once; as its restart time has passed, the bundle ends by the peer.
 pub fn ends_by_the_peer()
-    ensures shut { (lawful : Lawful) (limits : Limits) (gather : GatherFacts) → marks_in (all_of (begins lawful limits 0 0 ++ negotiates ++ script_ends 1 ∷ peer_ends ∷ []) (fresh gather))
+    ensures shut { (lawful : Lawful) (limits : Limits) (gather : GatherNow) → marks_in (all_of (begins lawful limits 0 0 ++ negotiates ++ script_ends 1 ∷ peer_ends ∷ []) (fresh gather))
         ≡ first_marks ++ at_open 0 ++ ended_mark 0 (Exit 0) 1 ∷ ip_closed_mark 0 1 ∷ started_mark 0 false 1 ∷ [] }
-    ensures ends { (lawful : Lawful) (limits : Limits) (gather : GatherFacts) → (all_of (begins lawful limits 0 0 ++ negotiates ++ peer_ends ∷ Tick 2999 ∷ []) (fresh gather)).ended ≡ None }
-    ensures ended { (lawful : Lawful) (limits : Limits) (gather : GatherFacts) → (all_of (begins lawful limits 0 0 ++ negotiates ++ peer_ends ∷ Tick 3000 ∷ []) (fresh gather)).ended
+    ensures ends { (lawful : Lawful) (limits : Limits) (gather : GatherNow) → (all_of (begins lawful limits 0 0 ++ negotiates ++ peer_ends ∷ Tick 2999 ∷ []) (fresh gather)).ended ≡ None }
+    ensures ended { (lawful : Lawful) (limits : Limits) (gather : GatherNow) → (all_of (begins lawful limits 0 0 ++ negotiates ++ peer_ends ∷ Tick 3000 ∷ []) (fresh gather)).ended
         ≡ Some (record { cause = 15; y = 1; elapsed_ms = 0; live = true }) }
-    ensures marks { (lawful : Lawful) (limits : Limits) (gather : GatherFacts) → marks_in (all_of (begins lawful limits 0 0 ++ negotiates ++ peer_ends ∷ Tick 3000 ∷ []) (fresh gather))
+    ensures marks { (lawful : Lawful) (limits : Limits) (gather : GatherNow) → marks_in (all_of (begins lawful limits 0 0 ++ negotiates ++ peer_ends ∷ Tick 3000 ∷ []) (fresh gather))
         ≡ first_marks ++ at_open 0 ++ ip_closed_mark 0 1 ∷ close_mark 3000 EndedByPeer 0 ∷ out_mark 3000 1 1 ∷ unmade_mark 3000 1 ∷ [] }
 {}
 
 /// With `idle 5`, no datagram passed from Opened at 1,000 until 6,000: the bundle is closed then, and not before.
 pub fn idles()
-    ensures before { (lawful : Lawful) (limits : Limits) (gather : GatherFacts) → (all_of (begins lawful limits 5 0 ++ Tick 1000 ∷ negotiates ++ Tick 5999 ∷ []) (fresh gather)).ended ≡ None }
-    ensures ended { (lawful : Lawful) (limits : Limits) (gather : GatherFacts) → (all_of (begins lawful limits 5 0 ++ Tick 1000 ∷ negotiates ++ Tick 6000 ∷ []) (fresh gather)).ended
+    ensures before { (lawful : Lawful) (limits : Limits) (gather : GatherNow) → (all_of (begins lawful limits 5 0 ++ Tick 1000 ∷ negotiates ++ Tick 5999 ∷ []) (fresh gather)).ended ≡ None }
+    ensures ended { (lawful : Lawful) (limits : Limits) (gather : GatherNow) → (all_of (begins lawful limits 5 0 ++ Tick 1000 ∷ negotiates ++ Tick 6000 ∷ []) (fresh gather)).ended
         ≡ Some (record { cause = 12; y = 0; elapsed_ms = 5000; live = true }) }
-    ensures marks { (lawful : Lawful) (limits : Limits) (gather : GatherFacts) → marks_in (all_of (begins lawful limits 5 0 ++ Tick 1000 ∷ negotiates ++ Tick 6000 ∷ []) (fresh gather))
+    ensures marks { (lawful : Lawful) (limits : Limits) (gather : GatherNow) → marks_in (all_of (begins lawful limits 5 0 ++ Tick 1000 ∷ negotiates ++ Tick 6000 ∷ []) (fresh gather))
         ≡ first_marks ++ at_open 1000 ++ close_mark 6000 Idle 5000 ∷ ip_closed_mark 6000 1 ∷ out_mark 6000 1 1 ∷ unmade_mark 6000 1 ∷ [] }
-    ensures received { (lawful : Lawful) (limits : Limits) (gather : GatherFacts) → (all_of (begins lawful limits 5 0 ++ Tick 1000 ∷ negotiates ++ Tick 2000 ∷ Frame 1 IP (69 ∷ []) ∷ Tick 6999 ∷ []) (fresh gather)).ended ≡ None }
-    ensures sent { (lawful : Lawful) (limits : Limits) (gather : GatherFacts) → (all_of (begins lawful limits 5 0 ++ Tick 1000 ∷ negotiates ++ Tick 2000 ∷ Datagram (69 ∷ []) ∷ Tick 6999 ∷ []) (fresh gather)).ended ≡ None }
+    ensures received { (lawful : Lawful) (limits : Limits) (gather : GatherNow) → (all_of (begins lawful limits 5 0 ++ Tick 1000 ∷ negotiates ++ Tick 2000 ∷ Frame 1 IP (69 ∷ []) ∷ Tick 6999 ∷ []) (fresh gather)).ended ≡ None }
+    ensures sent { (lawful : Lawful) (limits : Limits) (gather : GatherNow) → (all_of (begins lawful limits 5 0 ++ Tick 1000 ∷ negotiates ++ Tick 2000 ∷ Datagram (69 ∷ []) ∷ Tick 6999 ∷ []) (fresh gather)).ended ≡ None }
 {}
 
 /// With `maxconnect 5` the bundle is closed five seconds after IP opened, whatever passed.
 pub fn stays_no_longer()
-    ensures before { (lawful : Lawful) (limits : Limits) (gather : GatherFacts) → (all_of (begins lawful limits 0 5 ++ negotiates ++ Tick 4999 ∷ Datagram (69 ∷ []) ∷ []) (fresh gather)).ended ≡ None }
-    ensures ended { (lawful : Lawful) (limits : Limits) (gather : GatherFacts) → (all_of (begins lawful limits 0 5 ++ negotiates ++ Tick 4999 ∷ Datagram (69 ∷ []) ∷ Tick 5000 ∷ []) (fresh gather)).ended
+    ensures before { (lawful : Lawful) (limits : Limits) (gather : GatherNow) → (all_of (begins lawful limits 0 5 ++ negotiates ++ Tick 4999 ∷ Datagram (69 ∷ []) ∷ []) (fresh gather)).ended ≡ None }
+    ensures ended { (lawful : Lawful) (limits : Limits) (gather : GatherNow) → (all_of (begins lawful limits 0 5 ++ negotiates ++ Tick 4999 ∷ Datagram (69 ∷ []) ∷ Tick 5000 ∷ []) (fresh gather)).ended
         ≡ Some (record { cause = 13; y = 0; elapsed_ms = 5000; live = true }) }
 {}
 
 /// A datagram for a unit that isn't Opened is dropped and counted, as is one of a member; in Opened both pass.
 pub fn passes_in_opened_alone()
-    ensures dropped { (lawful : Lawful) (limits : Limits) (gather : GatherFacts) → (all_of (begins lawful limits 0 0 ++ Datagram (69 ∷ []) ∷ Frame 1 IP (69 ∷ []) ∷ []) (fresh gather)).counts
+    ensures dropped { (lawful : Lawful) (limits : Limits) (gather : GatherNow) → (all_of (begins lawful limits 0 0 ++ Datagram (69 ∷ []) ∷ Frame 1 IP (69 ∷ []) ∷ []) (fresh gather)).counts
         ≡ record { not_open = 2; stranger = 0; too_big = 0; bad_inner = 0 } }
-    ensures given { (lawful : Lawful) (limits : Limits) (gather : GatherFacts) → (all_of (begins lawful limits 0 0 ++ negotiates ++ Frame 1 IP (69 ∷ []) ∷ []) (fresh gather)).given ≡ (69 ∷ []) ∷ [] }
-    ensures sent { (lawful : Lawful) (limits : Limits) (gather : GatherFacts) → (all_of (begins lawful limits 0 0 ++ negotiates ++ Datagram (69 ∷ []) ∷ []) (fresh gather)).sent
+    ensures given { (lawful : Lawful) (limits : Limits) (gather : GatherNow) → (all_of (begins lawful limits 0 0 ++ negotiates ++ Frame 1 IP (69 ∷ []) ∷ []) (fresh gather)).given ≡ (69 ∷ []) ∷ [] }
+    ensures sent { (lawful : Lawful) (limits : Limits) (gather : GatherNow) → (all_of (begins lawful limits 0 0 ++ negotiates ++ Datagram (69 ∷ []) ∷ []) (fresh gather)).sent
         ≡ record { link = 1; protocol = IP; information = 69 ∷ []; rejected = false } ∷ [] }
-    ensures stranger { (lawful : Lawful) (limits : Limits) (gather : GatherFacts) → (all_of (begins lawful limits 0 0 ++ negotiates ++ Frame 2 IP (69 ∷ []) ∷ []) (fresh gather)).counts.stranger ≡ 1 }
-    ensures too_big { (lawful : Lawful) (limits : Limits) (gather : GatherFacts) → (all_of (begins lawful limits 0 0 ++ negotiates ++ Datagram (replicate 1501 69) ∷ []) (fresh gather)).counts.too_big ≡ 1 }
+    ensures stranger { (lawful : Lawful) (limits : Limits) (gather : GatherNow) → (all_of (begins lawful limits 0 0 ++ negotiates ++ Frame 2 IP (69 ∷ []) ∷ []) (fresh gather)).counts.stranger ≡ 1 }
+    ensures too_big { (lawful : Lawful) (limits : Limits) (gather : GatherNow) → (all_of (begins lawful limits 0 0 ++ negotiates ++ Datagram (replicate 1501 69) ∷ []) (fresh gather)).counts.too_big ≡ 1 }
 {}
 
 /// The one member goes out: IP is closed, and the bundle is unmade without a cause.
 pub fn leaves()
-    ensures marks { (lawful : Lawful) (limits : Limits) (gather : GatherFacts) → marks_in (all_of (begins lawful limits 0 0 ++ negotiates ++ Out 1 1 ∷ []) (fresh gather))
+    ensures marks { (lawful : Lawful) (limits : Limits) (gather : GatherNow) → marks_in (all_of (begins lawful limits 0 0 ++ negotiates ++ Out 1 1 ∷ []) (fresh gather))
         ≡ first_marks ++ at_open 0 ++ ip_closed_mark 0 1 ∷ out_mark 0 1 1 ∷ unmade_mark 0 1 ∷ [] }
-    ensures ended { (lawful : Lawful) (limits : Limits) (gather : GatherFacts) → (all_of (begins lawful limits 0 0 ++ negotiates ++ Out 1 1 ∷ []) (fresh gather)).ended ≡ None }
+    ensures ended { (lawful : Lawful) (limits : Limits) (gather : GatherNow) → (all_of (begins lawful limits 0 0 ++ negotiates ++ Out 1 1 ∷ []) (fresh gather)).ended ≡ None }
 {}
