@@ -312,17 +312,23 @@ pub room_first : (packets : List (List ℕ)) (places places2 : List (Option Slot
 room_first packets places places2 none same rest =
     sum-first (length packets) (tally ends places2 128) (ap length none) (fewer places2 (ap (λ ps. ends (place ps 0)) same ∙ rest))
 
-sum-last : (a0 t2 a3 t3 t4 tf t5 : ℕ) → a0 ≡ 0 → t2 ≤ 127 → a3 + t3 ≤ a0 + t2 → t4 + tf ≡ t3 → t5 ≤ t4 + 1 → a3 + t5 ≤ 128
-sum-last a0 t2 a3 t3 t4 tf t5 e h2 h3 h4 h5 = omega arith
+-- A call that begins at rest has room for one packet more.
+pub room_near : (packets : List (List ℕ)) (places : List (Option SlotPiece)) → packets ≡ [] → ends (place places 0) ≡ false → length packets + tally ends places 128 ≤ 127
+room_near packets places none rest = let e : length packets ≡ 0 = ap length none in let h = fewer places rest in omega arith
 
-pub room_last : (packets packets3 : List (List ℕ)) (places places2 places3 places4 places5 : List (Option SlotPiece)) (far d : ℕ) (p : SlotPiece)
-    → packets ≡ [] → places2 ≡ places → ends (place places 0) ≡ false
-    → length packets3 + tally ends places3 128 ≤ length packets + tally ends places2 128
-    → ((i : ℕ) → 128 ≤ i → place places3 i ≡ None) → ((i : ℕ) → place places4 i ≡ place places3 (i + far))
-    → IsKept places4 places5 d p → length packets3 + tally ends places5 128 ≤ 128
-room_last packets packets3 places places2 places3 places4 places5 far d p none same rest room past moved put =
-    sum-last (length packets) (tally ends places2 128) (length packets3) (tally ends places3 128) (tally ends places4 128) (tally ends places3 far) (tally ends places5 128)
-    (ap length none) (fewer places2 (ap (λ ps. ends (place ps 0)) same ∙ rest)) room (tally-left ends places3 places4 far refl moved past) (tally-kept ends places4 places5 d 128 p put)
+pub room_far : (packets packets3 : List (List ℕ)) (places places3 places4 : List (Option SlotPiece)) (far : ℕ)
+    → packets ≡ [] → ends (place places 0) ≡ false → length packets3 + tally ends places3 128 ≤ length packets + tally ends places 128
+    → ((i : ℕ) → 128 ≤ i → place places3 i ≡ None) → ((i : ℕ) → place places4 i ≡ place places3 (i + far)) → length packets3 + tally ends places4 128 ≤ 127
+room_far packets packets3 places places3 places4 far none rest room past moved =
+    let most = room_near packets places none rest in
+    let left = tally-left ends places3 places4 far refl moved past in
+    omega arith
+
+pub room_one : (packets : List (List ℕ)) (places places5 places6 : List (Option SlotPiece)) (d : ℕ) (p : SlotPiece) → length packets + tally ends places 128 ≤ 127 → IsKept places places5 d p → places6 ≡ places5 → length packets + tally ends places6 128 ≤ 128
+room_one packets places places5 places6 d p room kept same =
+    let one = tally-kept ends places places5 d 128 p kept in
+    let e : tally ends places6 128 ≡ tally ends places5 128 = ap (λ ps. tally ends ps 128) same in
+    omega arith
 
 pub less-same : (a b c d : ℕ) → a < b + c → c ≡ d → a < b + d
 less-same a b c d less same = omega arith

@@ -6,9 +6,9 @@ use Rattle.std.specs.List.{fold}
 use Rattle.std.proofs.lemmas.Bool.{cases_lt}
 use Rattle.std.proofs.lemmas.Bool.Decides.{nat_tests}
 use Rattle.ppp_mp.specs.Pieces.{Piece, piece_at, joined, Begun}
-use Rattle.ppp_mp.specs.Delivered.{Gathering, AtRest, Keeps, Rule, Rules, Settles, ruled, behind, goes_on, loses, completes, lesser, lowest, mark, brings, joins, leaves, keeps_piece}
+use Rattle.ppp_mp.specs.Delivered.{Gathering, AtRest, Keeps, Rule, Rules, Settles, ruled, behind, goes_on, loses, completes, lesser, lowest, mark, brings, joins, leaves, keeps_piece, thrown_to}
 use Rattle.ppp_mp.specs.Places.{place}
-use Rattle.ppp_mp.specs.Moves.{HasTaken, HasSettledNow, HasSettled, IsMoved, IsKept, arrived}
+use Rattle.ppp_mp.specs.Moves.{HasTaken, HasSettledNow, HasSettled, IsMoved, IsKept, Room, MadeRoom, arrived}
 use Rattle.ppp_mp.specs.Facts.{KeepsFacts, waiting}
 use Rattle.ppp_mp.specs.StandsFor.{stopped, counted, overs_of}
 use Rattle.ppp_mp.specs.Header.{long_space}
@@ -17,7 +17,7 @@ use Rattle.ppp_mp.specs.declared.facts.GatherFacts.{GatherFacts}
 use Rattle.ppp_mp.specs.declared.counts.GatherCounts.{GatherCounts}
 use Rattle.ppp_mp.specs.declared.counts.PieceNow.TheVariants.{Kept, Old, Doubled}
 use Rattle.ppp_mp.proofs.RuleLemmas.{moves, stopped-more}
-use Rattle.ppp_mp.proofs.Rests.{some_same, mark_low}
+use Rattle.ppp_mp.proofs.Rests.{some_same, mark_low, rest_for}
 use Rattle.ppp_mp.proofs.SettlingLemmas.{lost-counts}
 
 lesser-less : (least : ℕ) (a b : Option ℕ) → lesser (option_map (λ n. n - least) a) (option_map (λ n. n - least) b) ≡ option_map (λ n. n - least) (lesser a b)
@@ -239,15 +239,11 @@ nothing-waits : (n : ℕ) (o : Option SlotPiece) → option_map (waiting n) o �
 nothing-waits n None e = refl
 nothing-waits n (Some p) e = absurd (cc)
 
-pub taken_kept : (g g3 g4 g5 g6 g7 : GatherFacts) (packets3 packets7 : List (List ℕ)) (s : Gathering) (at ahead field bound left far d : ℕ) (p : SlotPiece)
-    → KeepsFacts long_space g s → AtRest g.mrru (mark s) s → field < long_space → (g.places.base + ahead) % long_space ≡ field → ahead < 8388608 → is_some (place g.places.pieces ahead) ≡ false
+-- What was settled makes room.
+pub room_made : (g g3 g4 : GatherFacts) (packets3 : List (List ℕ)) (ahead field bound left far : ℕ) → field < long_space → (g.places.base + ahead) % long_space ≡ field → ahead < 8388608
     → bound ≡ max (unwrap_or (lowest g.overs) 0) (ahead - 127) → HasSettled long_space bound g g3 [] packets3
-    → left < long_space → (g3.places.base + left) % long_space ≡ field → far ≡ left - 127 → IsMoved long_space g3 g4 far → g4.counts ≡ record g3.counts { lost = stopped (g3.counts.lost + far) }
-    → d ≡ left - far → g5.places.base ≡ g4.places.base → IsKept g4.places.pieces g5.places.pieces d p → g5.overs ≡ g4.overs → g5.counts ≡ g4.counts
-    → g6.mrru ≡ g.mrru → g6.places.base ≡ g5.places.base → g6.places.pieces ≡ g5.places.pieces → g6.overs ≡ over_now g5 at d → g6.counts ≡ g5.counts
-    → HasSettledNow long_space g6 g7 packets3 packets7 → HasTaken long_space g.mrru s (at + 1) (arrived field p) Kept g7 packets7
-taken_kept g g3 g4 g5 g6 g7 packets3 packets7 s at ahead field bound left far d p k rest field_in same half there bound_set settled3 left_in same3 far_set moved counts4 d_set base5 places5 overs5 counts5 mrru6 base6 places6 overs6 counts6 settled7 =
-    let none : piece_at (s.least + ahead) s.kept ≡ None = k.places ahead ∙ ap (option_map (waiting (s.least + ahead))) (none-is (place g.places.pieces ahead) there) in
+    → left < long_space → (g3.places.base + left) % long_space ≡ field → far ≡ left - 127 → IsMoved long_space g3 g4 far → g4.counts ≡ record g3.counts { lost = stopped (g3.counts.lost + far) } → MadeRoom long_space g g4 packets3 ahead (left - far)
+room_made g g3 g4 packets3 ahead field bound left far field_in same half bound_set settled3 left_in same3 far_set moved counts4 = λ s k rest none.
     let low : mark s ≤ s.least + ahead = mark_low g.mrru s (s.least + ahead) rest (omega arith) none in
     let bound_now : bound ≡ max (mark s) (s.least + ahead - 127) - s.least =
     bound-same s.least ahead (mark s) bound (unwrap_or (lowest g.overs) 0) (ap (λ os. unwrap_or (lowest os) 0) k.overs ∙ bound_is s) bound_set in
@@ -260,21 +256,58 @@ taken_kept g g3 g4 g5 g6 g7 packets3 packets7 s at ahead field bound left far d 
     (full_above r3.0.least g3.places.base left field keeps3.base same3 ∙ sym (full_above s.least g.places.base ahead field k.base same)) in
     let far_is : far ≡ (s.least + ahead - 127) - r3.0.least = omega arith in
     let keeps4 : KeepsFacts long_space g4 (loses r3.0 far) = moves g3 g4 r3.0 (loses r3.0 far) far keeps3 moved refl refl refl (lost-counts g3 g4 r3.0 far keeps3.counts counts4) in
-    let place_is : s.least + ahead ≡ (r3.0.least + far) + d = omega arith in
-    let free : piece_at (r3.0.least + far + d) r3.0.kept ≡ None = ap (λ n. piece_at n r3.0.kept) (sym place_is) ∙ ap (piece_at (s.least + ahead)) goes.kept ∙ none in
-    let empty : place g4.places.pieces d ≡ None = nothing-waits (r3.0.least + far + d) (place g4.places.pieces d) (sym (keeps4.places d) ∙ free) in
-    let s5 : Gathering = keeps_piece (waiting (s.least + ahead) p) (loses r3.0 far) in
-    let keeps5 : KeepsFacts long_space g5 (keeps_piece (waiting (s.least + ahead) p) (loses r3.0 far)) = put_keeps g4 g5 (loses r3.0 far) (s.least + ahead) d p keeps4 place_is base5 (places5.empty empty) overs5 counts5 in
-    let d_is : d ≡ (s.least + ahead) - (r3.0.least + far) = omega arith in
-    let keeps6 : KeepsFacts long_space g6 (brings (keeps_piece (waiting (s.least + ahead) p) (loses r3.0 far)) (at + 1) (s.least + ahead)) =
+    record {
+      mid = r3.0;
+      settles = r3.1;
+      keeps = subst (λ (c : ℕ). KeepsFacts long_space g4 (loses r3.0 c)) far_is keeps4;
+      given = r3.2.given;
+      kept = goes.kept;
+      at = omega arith;
+    }
+
+loses_none : (s : Gathering) (none : ℕ) → none ≡ 0 → s ≡ loses s none
+loses_none s none is =
+    let set = λ (n c : ℕ). (let r : Gathering = record s { least = n; lost = c } in r) in
+    let least : s.least ≡ s.least + none = omega arith in
+    let lost : s.lost ≡ s.lost + none = omega arith in
+    ap (λ (n : ℕ). set n s.lost) least ∙ ap (λ (c : ℕ). set (s.least + none) c) lost
+
+-- Where a piece is less than 128 ahead, there is room.
+pub room_there : (g : GatherFacts) (packets : List (List ℕ)) (ahead : ℕ) → ahead < 128 → packets ≡ [] → MadeRoom long_space g g packets ahead ahead
+room_there g packets ahead near empty = λ s k rest none.
+    let count_is : s.least + ahead - 127 - s.least ≡ 0 = omega arith in
+    let resting : AtRest g.mrru (max (mark s) (s.least + ahead - 127)) s = rest_for g.mrru (mark s) (max (mark s) (s.least + ahead - 127)) s s rest refl refl (omega arith) in
+    record {
+      mid = s;
+      settles = record { count = 0; rules = refl; rest = resting };
+      keeps = subst (λ (x : Gathering). KeepsFacts long_space g x) (loses_none s (s.least + ahead - 127 - s.least) count_is) k;
+      given = sym (append-nil s.given) ∙ sym (ap (λ (l : List (List ℕ)). s.given ++ l) empty);
+      kept = refl;
+      at = omega arith;
+    }
+
+pub taken_kept : (g g4 g5 g6 g7 : GatherFacts) (packets3 packets7 : List (List ℕ)) (s : Gathering) (at ahead field d : ℕ) (p : SlotPiece)
+    → KeepsFacts long_space g s → AtRest g.mrru (mark s) s → field < long_space → (g.places.base + ahead) % long_space ≡ field → ahead < 8388608 → is_some (place g.places.pieces ahead) ≡ false
+    → MadeRoom long_space g g4 packets3 ahead d → g5.places.base ≡ g4.places.base → IsKept g4.places.pieces g5.places.pieces d p → g5.overs ≡ g4.overs → g5.counts ≡ g4.counts
+    → g6.mrru ≡ g.mrru → g6.places.base ≡ g5.places.base → g6.places.pieces ≡ g5.places.pieces → g6.overs ≡ over_now g5 at d → g6.counts ≡ g5.counts
+    → HasSettledNow long_space g6 g7 packets3 packets7 → HasTaken long_space g.mrru s (at + 1) (arrived field p) Kept g7 packets7
+taken_kept g g4 g5 g6 g7 packets3 packets7 s at ahead field d p k rest field_in same half there made base5 places5 overs5 counts5 mrru6 base6 places6 overs6 counts6 settled7 =
+    let none : piece_at (s.least + ahead) s.kept ≡ None = k.places ahead ∙ ap (option_map (waiting (s.least + ahead))) (none-is (place g.places.pieces ahead) there) in
+    let r : Room long_space g s g4 packets3 (s.least + ahead) d = made s k rest none in
+    let s4 : Gathering = thrown_to (s.least + ahead - 127) r.mid in
+    let place_is : s.least + ahead ≡ (thrown_to (s.least + ahead - 127) r.mid).least + d = r.at in
+    let free : piece_at ((thrown_to (s.least + ahead - 127) r.mid).least + d) r.mid.kept ≡ None = ap (λ n. piece_at n r.mid.kept) (sym place_is) ∙ ap (piece_at (s.least + ahead)) r.kept ∙ none in
+    let empty : place g4.places.pieces d ≡ None = nothing-waits (s4.least + d) (place g4.places.pieces d) (sym (r.keeps.places d) ∙ free) in
+    let s5 : Gathering = keeps_piece (waiting (s.least + ahead) p) s4 in
+    let keeps5 : KeepsFacts long_space g5 (keeps_piece (waiting (s.least + ahead) p) s4) = put_keeps g4 g5 s4 (s.least + ahead) d p r.keeps place_is base5 (places5.empty empty) overs5 counts5 in
+    let d_is : d ≡ (s.least + ahead) - s4.least = omega arith in
+    let keeps6 : KeepsFacts long_space g6 (brings (keeps_piece (waiting (s.least + ahead) p) s4) (at + 1) (s.least + ahead)) =
     keeps_with g5 g6 s5 (brings s5 (at + 1) (s.least + ahead)) keeps5 base6 (λ i. ap (λ ps. place ps i) places6) refl refl
     (overs6 ∙ overs_brought s5 g5.overs at (s.least + ahead) d keeps5.overs d_is) (counts6 ∙ keeps5.counts) in
-    let r7 = settled7 s.given (brings (keeps_piece (waiting (s.least + ahead) p) (loses r3.0 far)) (at + 1) (s.least + ahead)) (record { keeps = keeps6; given = r3.2.given }) in
+    let r7 = settled7 s.given (brings (keeps_piece (waiting (s.least + ahead) p) s4) (at + 1) (s.least + ahead)) (record { keeps = keeps6; given = r.given }) in
     let P7 = λ (m : ℕ). Settles m (mark (brings s5 (at + 1) (s.least + ahead))) (brings s5 (at + 1) (s.least + ahead)) r7.0 in
-    let Q7 = λ (c : ℕ).
-    (let now : Gathering = brings (keeps_piece (waiting (s.least + ahead) p) (loses r3.0 c)) (at + 1) (s.least + ahead) in Settles g.mrru (mark now) now r7.0) in
     let small : field % long_space ≡ field = omega arith in
-    let keeping : Keeps g.mrru s (at + 1) (waiting (s.least + ahead) p) r7.0 = record { mid = r3.0; before = r3.1; after = subst Q7 far_is (subst P7 mrru6 r7.1) } in (
+    let keeping : Keeps g.mrru s (at + 1) (waiting (s.least + ahead) p) r7.0 = record { mid = r.mid; before = r.settles; after = subst P7 mrru6 r7.1 } in (
       r7.0,
       record {
         number = s.least + ahead;

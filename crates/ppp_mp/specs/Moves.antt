@@ -1,6 +1,7 @@
 -- What the single steps of a gatherer do to what it keeps.
-use Rattle.std.specs.Prelude.{◌≡◌, ℕ, ◌+◌, ◌-◌, ◌%◌, ◌≤◌, ◌<◌, List, [], ◌∷◌, ◌++◌, map, min, length, option_map, ◌≢◌, ◌==◌, Some, None, Option, if◌then◌else◌}
-use Rattle.ppp_mp.specs.Delivered.{Gathering, Fragment, Settles, TakesOf, mark}
+use Rattle.std.specs.Prelude.{◌≡◌, ℕ, ◌+◌, ◌-◌, ◌%◌, ◌≤◌, ◌<◌, List, [], ◌∷◌, ◌++◌, map, min, max, length, option_map, ◌≢◌, ◌==◌, Some, None, Option, if◌then◌else◌}
+use Rattle.ppp_mp.specs.Pieces.{piece_at}
+use Rattle.ppp_mp.specs.Delivered.{Gathering, Fragment, Settles, AtRest, TakesOf, mark, thrown_to}
 use Rattle.ppp_mp.specs.Places.{place, joined_there}
 use Rattle.ppp_mp.specs.StandsFor.{stopped}
 use Rattle.ppp_mp.specs.Facts.{KeepsFacts}
@@ -53,3 +54,16 @@ HasSettled space bound old new packets packets' =
 pub record HasCompleted (old new : GatherFacts) (count : ℕ) (packets packets' : List (List ℕ)) : Type 0 where
   pub long : old.mrru + 2 < length (joined_there old.places.pieces count) → (packets' ≡ packets) × (new.counts ≡ record old.counts { too_long = stopped (old.counts.too_long + 1) })
   pub fits : length (joined_there old.places.pieces count) ≤ old.mrru + 2 → (packets' ≡ packets ++ joined_there old.places.pieces count ∷ []) × (new.counts ≡ old.counts)
+
+-- Where a piece that is so far ahead is new, what lies more than 127 below it has been settled: its place then is this.
+pub record Room (space : ℕ) (old : GatherFacts) (s : Gathering) (new : GatherFacts) (packets : List (List ℕ)) (number place : ℕ) : Type 0 where
+  pub mid : Gathering
+  pub settles : Settles old.mrru (max (mark s) (number - 127)) s mid
+  pub keeps : KeepsFacts space new (thrown_to (number - 127) mid)
+  pub given : mid.given ≡ s.given ++ packets
+  pub kept : mid.kept ≡ s.kept
+  pub at : number ≡ (thrown_to (number - 127) mid).least + place
+
+abbrev pub MadeRoom : (space : ℕ) (old new : GatherFacts) (packets : List (List ℕ)) (ahead place : ℕ) → Type 0
+MadeRoom space old new packets ahead place =
+    (s : Gathering) → KeepsFacts space old s → AtRest old.mrru (mark s) s → piece_at (s.least + ahead) s.kept ≡ None → Room space old s new packets (s.least + ahead) place

@@ -4,7 +4,7 @@ ghost use Rattle.ppp_base.specs.declared.octets.TheConstants.{MOST_FRAME};
 ghost use Rattle.ppp_mp.specs.Header.{long_space};
 ghost use Rattle.ppp_mp.specs.Ring.{slot_piece};
 ghost use Rattle.ppp_mp.specs.Places.{place, tally, ends, Found, HasLooked};
-ghost use Rattle.ppp_mp.specs.Moves.{IsMoved, HasSettled, HasSettledNow, HasCompleted, HasTaken, IsKept, arrived};
+ghost use Rattle.ppp_mp.specs.Moves.{IsMoved, HasSettled, HasSettledNow, HasCompleted, HasTaken, IsKept, MadeRoom, arrived};
 ghost use Rattle.ppp_mp.specs.Facts.{KeepsFacts, members_in, with_looks_at};
 
 use crate::counts::PieceNow;
@@ -53,15 +53,40 @@ impl GatherFacts {
             self.settle_now(given);
             return PieceNow::Doubled;
         }
-        let bound = self.bound().max(ahead.saturating_sub(127));
+        let place = self.make_room(field, ahead, given);
+        self.keep(place, first, last, octets);
+        self.bring(at, place);
+        self.settle_now(given);
+        PieceNow::Kept
+    }
+
+    // Before a piece so far ahead is kept, what lies more than 127 below it is settled. Its place then.
+    fn make_room(&mut self, field: u32, ahead: u32, given: &mut Given) -> u32
+        requires field { field < long_space }
+        requires ahead { (self.old.places.base + ahead) % long_space ≡ field }
+        requires half { ahead < 8388608 }
+        requires empty { given.old ≡ [] }
+        requires rest { ends (place self.old.places.pieces 0) ≡ false }
+        requires end { self.old.places.end ≤ 128 }
+        ensures place { result < 128 }
+        ensures made { MadeRoom long_space self.old self.new given.new ahead result }
+        ensures room { length given.new + tally ends self.new.places.pieces 128 ≤ 127 }
+        ensures mrru { self.new.mrru ≡ self.old.mrru }
+        ensures members { members_in self.new ≡ members_in self.old }
+        ensures end { self.new.places.end ≤ 128 }
+        ensures looks { self.new.places.looks + 2 * self.new.places.end ≤ self.old.places.looks + 3 * self.old.places.end + 1 }
+        ensures rose { self.old.places.looks ≤ self.new.places.looks }
+    {
+        // The rules were applied with M as it is.
+        if ahead < 128 {
+            return ahead;
+        }
+        let bound = self.bound().max(ahead - 127);
         self.settle(bound, given);
         let left = self.ahead(field);
         let far = left.saturating_sub(127);
         self.lose(far);
-        self.keep(left - far, first, last, octets);
-        self.bring(at, left - far);
-        self.settle_now(given);
-        PieceNow::Kept
+        left - far
     }
 
     // Whether the link at this position is a member.

@@ -1,7 +1,7 @@
 use Rattle.std.proofs.Common.{◌≡◌, ◌+◌, ◌-◌, ◌%◌, ℕ, List, Option, [], true, false, None, is_some, map, slice_index_or, arith, sym, ap, subst, refl, ◌∙◌, max, unwrap_or}
 use Rattle.ppp_mp.specs.Delivered.{AtRest, mark, lowest}
 use Rattle.ppp_mp.specs.Header.{long_space}
-use Rattle.ppp_mp.specs.Places.{place}
+use Rattle.ppp_mp.specs.Places.{place, ends}
 use Rattle.ppp_mp.specs.Ring.{slot_piece}
 use Rattle.ppp_mp.specs.Moves.{HasSettledNow, HasSettled, HasTaken, IsKept, arrived}
 use Rattle.ppp_mp.specs.Facts.{KeepsFacts, members_in}
@@ -10,7 +10,7 @@ use Rattle.ppp_mp.specs.declared.facts.GatherFacts.{GatherFacts}
 use Rattle.ppp_mp.specs.declared.slot_piece.SlotPiece.{SlotPiece}
 use Rattle.ppp_mp.specs.declared.counts.PieceNow.TheVariants.{Kept, Doubled}
 use Rattle.ppp_mp.proofs.MemberCalls.{brought_same, moved_same, there_same}
-use Rattle.ppp_mp.proofs.SettlingLemmas.{room_first, room_last, looks_keeps}
+use Rattle.ppp_mp.proofs.SettlingLemmas.{room_first, room_one, looks_keeps}
 use Rattle.ppp_mp.proofs.Taking.{taken_old, taken_doubled, taken_kept, over_now, counting_old, counting_doubled}
 use Rattle.ppp_mp.proofs.facts.GatherFacts.take.Goals as goal
 
@@ -22,16 +22,16 @@ settle_now-requires-then-waits c =
     room_first c.args.given.now c.args.self.now.places.pieces c.count_doubled.new.self.places.pieces c.requires.empty
     (ap (λ (g : GatherFacts). g.places.pieces) c.count_doubled.ensures ∙ ap (λ (g : GatherFacts). g.places.pieces) c.bring-then-waits.ensures ∙ ap (λ (g : GatherFacts). g.places.pieces) c.waits.ensures.same) c.requires.rest
 
-pub settle-requires : goal.settle-requires
-settle-requires c = room_first c.args.given.now c.args.self.now.places.pieces c.waits.new.self.places.pieces c.requires.empty (ap (λ (g : GatherFacts). g.places.pieces) c.waits.ensures.same) c.requires.rest
+pub make_room-place-requires-clause-ahead : goal.make_room-place-requires-clause-ahead
+make_room-place-requires-clause-ahead c = ap (λ (g : GatherFacts). (g.places.base + c.ahead-ahead.result) % long_space) c.waits.ensures.same ∙ c.ahead-ahead.ensures.is
+
+pub make_room-place-requires-clause-rest : goal.make_room-place-requires-clause-rest
+make_room-place-requires-clause-rest c = ap (λ (g : GatherFacts). ends (place g.places.pieces 0)) c.waits.ensures.same ∙ c.requires.rest
 
 pub settle_now-requires-2 : goal.settle_now-requires-2
 settle_now-requires-2 c =
-    let same : c.bring-2.new.self.places.pieces ≡ c.keep.new.self.places.pieces = ap (λ (g : GatherFacts). g.places.pieces) c.bring-2.ensures in
-    let P = λ (l : List (Option SlotPiece)). IsKept c.lose.new.self.places.pieces l (c.ahead-left.result - c.saturating_sub-far.result) (slot_piece c.args.first c.args.last c.args.octets.now) in
-    room_last c.args.given.now c.settle.new.given c.args.self.now.places.pieces c.waits.new.self.places.pieces c.settle.new.self.places.pieces c.lose.new.self.places.pieces c.bring-2.new.self.places.pieces c.saturating_sub-far.result
-    (c.ahead-left.result - c.saturating_sub-far.result) (slot_piece c.args.first c.args.last c.args.octets.now)
-    c.requires.empty (ap (λ (g : GatherFacts). g.places.pieces) c.waits.ensures.same) c.requires.rest c.settle.ensures.room c.settle.ensures.past c.lose.ensures.moved.places (subst P (sym same) c.keep.ensures.kept)
+    room_one c.make_room-place.new.given c.make_room-place.new.self.places.pieces c.keep.new.self.places.pieces c.bring-2.new.self.places.pieces c.make_room-place.result (slot_piece c.args.first c.args.last c.args.octets.now)
+    c.make_room-place.ensures.room c.keep.ensures.kept (ap (λ (g : GatherFacts). g.places.pieces) c.bring-2.ensures)
 
 pub returns-then-ahead-ge-HALF-clause-takes : goal.returns-then-ahead-ge-HALF-clause-takes
 returns-then-ahead-ge-HALF-clause-takes c = λ s k rest.
@@ -73,20 +73,14 @@ returns-clause-takes c = λ s k rest.
     let mrru0 : c.waits.new.self.mrru ≡ c.args.self.now.mrru = ap (λ (x : GatherFacts). x.mrru) same in
     let keeps : KeepsFacts long_space c.waits.new.self s = subst (λ (x : GatherFacts). KeepsFacts long_space x s) (sym same) (looks_keeps c.args.self.now c.waits.new.self.places.looks s k) in
     let rests : AtRest c.waits.new.self.mrru (mark s) s = subst (λ (m : ℕ). AtRest m (mark s) s) (sym mrru0) rest in
-    let P = λ (l : List (List ℕ)). HasSettled long_space c.max-bound.result c.waits.new.self c.settle.new.self l c.settle.new.given in
-    let settled : HasSettled long_space c.max-bound.result c.waits.new.self c.settle.new.self [] c.settle.new.given = subst P c.requires.empty c.settle.ensures.settled in
     let there : is_some (place c.waits.new.self.places.pieces c.ahead-ahead.result) ≡ false =
     ap (λ (x : GatherFacts). is_some (place x.places.pieces c.ahead-ahead.result)) same ∙ sym c.waits.ensures.waits ∙ c.if-waits.false in
-    let mrru : c.bring-2.new.self.mrru ≡ c.waits.new.self.mrru = ap (λ (g : GatherFacts). g.mrru) c.bring-2.ensures ∙ c.keep.ensures.mrru ∙ c.lose.ensures.moved.mrru ∙ c.settle.ensures.mrru in
-    let bound : c.max-bound.result ≡ max (unwrap_or (lowest c.waits.new.self.overs) 0) (c.ahead-ahead.result - 127) =
-    c.max-bound.ensures ∙ ap (λ b. max b c.saturating_sub.result) c.bound.ensures ∙ ap (λ a. max (unwrap_or (lowest c.waits.new.self.overs) 0) a) c.saturating_sub.ensures in
+    let mrru : c.bring-2.new.self.mrru ≡ c.waits.new.self.mrru = ap (λ (g : GatherFacts). g.mrru) c.bring-2.ensures ∙ c.keep.ensures.mrru ∙ c.make_room-place.ensures.mrru in
     let taken : HasTaken long_space c.waits.new.self.mrru s (c.args.at + 1) (arrived c.args.field (slot_piece c.args.first c.args.last c.args.octets.now)) Kept c.settle_now-2.new.self c.settle_now-2.new.given =
-    taken_kept c.waits.new.self c.settle.new.self c.lose.new.self c.keep.new.self g6 c.settle_now-2.new.self c.settle.new.given c.settle_now-2.new.given s c.args.at c.ahead-ahead.result c.args.field
-    c.max-bound.result c.ahead-left.result c.saturating_sub-far.result (c.ahead-left.result - c.saturating_sub-far.result) (slot_piece c.args.first c.args.last c.args.octets.now)
+    taken_kept c.waits.new.self c.make_room-place.new.self c.keep.new.self g6 c.settle_now-2.new.self c.make_room-place.new.given c.settle_now-2.new.given s c.args.at c.ahead-ahead.result c.args.field
+    c.make_room-place.result (slot_piece c.args.first c.args.last c.args.octets.now)
     keeps rests c.requires.field (ap (λ b. (b + c.ahead-ahead.result) % long_space) base0 ∙ c.ahead-ahead.ensures.is) (omega (arith, c.if-ahead-ge-HALF.false)) there
-    bound settled
-    c.ahead-left.ensures.within c.ahead-left.ensures.is c.saturating_sub-far.ensures c.lose.ensures.moved c.lose.ensures.counts
-    refl c.keep.ensures.base c.keep.ensures.kept c.keep.ensures.overs c.keep.ensures.counts
+    c.make_room-place.ensures.made c.keep.ensures.base c.keep.ensures.kept c.keep.ensures.overs c.keep.ensures.counts
     mrru (ap (λ (g : GatherFacts). g.places.base) c.bring-2.ensures) (ap (λ (g : GatherFacts). g.places.pieces) c.bring-2.ensures) (ap (λ (g : GatherFacts). g.overs) c.bring-2.ensures) (ap (λ (g : GatherFacts). g.counts) c.bring-2.ensures)
     c.settle_now-2.ensures.settled in
     subst (λ (m : ℕ). HasTaken long_space m s (c.args.at + 1) (arrived c.args.field (slot_piece c.args.first c.args.last c.args.octets.now)) Kept c.settle_now-2.new.self c.settle_now-2.new.given) mrru0 taken
@@ -99,6 +93,6 @@ returns-then-waits-clause-members c =
 pub returns-clause-members : goal.returns-clause-members
 returns-clause-members c =
     let before : members_in c.keep.new.self ≡ members_in c.args.self.now =
-    ap (map is_some) c.keep.ensures.overs ∙ ap (map is_some) c.lose.ensures.moved.overs ∙ moved_same c.settle.new.self.overs _ ∙ c.settle.ensures.members ∙ ap members_in c.waits.ensures.same in
+    ap (map is_some) c.keep.ensures.overs ∙ c.make_room-place.ensures.members ∙ ap members_in c.waits.ensures.same in
     let in_it : is_some (slice_index_or c.keep.new.self.overs c.args.at None) ≡ true = there_same c.keep.new.self.overs c.args.self.now.overs c.args.at before ∙ c.requires.member in
     c.settle_now-2.ensures.members ∙ ap members_in c.bring-2.ensures ∙ brought_same c.keep.new.self.overs c.args.at _ in_it ∙ before
