@@ -1,11 +1,12 @@
 -- Numbers at the front of a text.
 use Rattle.std.proofs.Common.{◌≡◌, ℕ, zero, suc, ◌<◌, ◌≤◌, ◌^◌, Bool, true, false, List, [], ◌∷◌, ◌++◌, length, take, drop, get_or, Option, Some, refl, sym, subst, ap, ◌∙◌, arith, rules, decimal}
-use Rattle.std.specs.Prelude.{◌&&◌}
+use Rattle.std.specs.Prelude.{◌&&◌, nat_le}
+use Rattle.std.proofs.lemmas.Bool.Decides.{nat_tests}
 use Rattle.std.specs.List.{list_all}
 use Rattle.std.proofs.lemmas.Str.Parse.{IsNumeralModel, numerals_by_fold}
 use Rattle.std.proofs.lemmas.Fmt.{digits_decimal}
 use Rattle.std.proofs.Math.Seq.{take-append_seam}
-use Rattle.ppp_base.specs.Numbers.{is_digit, number_of, value_behind}
+use Rattle.ppp_base.specs.Numbers.{is_digit, may_be_number, number_of, value_behind}
 use Rattle.ppp_base.specs.declared.numbers.LeadingZeros.TheVariants.{Refused}
 use Rattle.ppp_base.proofs.Decimals.{decimal_back, decimal_alone, number_is_within}
 use Rattle.ppp_report.specs.Text.{HasNoDigit}
@@ -65,3 +66,21 @@ is_read word n most read is word_is low small = is ∙ ap (λ w. number_of Refus
 
 pub was_read : (word : List ℕ) (n most : ℕ) → Some n ≡ number_of Refused 0 most word → most < 2 ^ 64 → (n ≤ most) × (word ≡ decimal n)
 was_read word n most is small = ((number_is_within 0 most n word (sym is)).1, decimal_alone 0 most n word small (sym is))
+
+-- digits at each place
+pub all_from : (word : List ℕ) → ((k : ℕ) → k < length word → is_digit (get_or word k 0) ≡ true) → list_all is_digit word ≡ true
+all_from [] digits = refl
+all_from (b ∷ word) digits = both-true (is_digit b) (list_all is_digit word) (digits 0 (omega arith)) (all_from word (λ k h. digits (suc k) (omega (arith, h))))
+  where
+    both-true : (a b : Bool) → a ≡ true → b ≡ true → (a && b) ≡ true
+    both-true a b e f = rw e f
+
+-- what digits spell is a number where it is small enough
+pub is_spelled : (word : List ℕ) (value most : ℕ) → ((k : ℕ) → k < length word → is_digit (get_or word k 0) ≡ true) → may_be_number Refused word ≡ true
+    → value ≡ value_behind 0 word → value ≤ most → Some value ≡ number_of Refused 0 most word
+is_spelled word value most digits form is low =
+    let high : nat_le (value_behind 0 word) most ≡ true = small (value_behind 0 word) most (subst (λ v. v ≤ most) is low) in
+    rw form (rw (all_from word digits) (rw (small 0 (value_behind 0 word) (omega arith)) (rw high (ap Some is))))
+  where
+    small : (n most : ℕ) → n ≤ most → nat_le n most ≡ true
+    small n most h = grind (arith, nat_tests)

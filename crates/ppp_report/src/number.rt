@@ -1,9 +1,13 @@
 ghost use Rattle.std.specs.Prelude.{◌≡◌, ◌<◌, ◌≤◌, ℕ, List, ◌∷◌, ◌++◌, IfSome, MatchOption, length, slice_index, true, false};
 ghost use Rattle.std.specs.Fmt.{decimal};
-ghost use Rattle.ppp_base.specs.Numbers.{is_digit};
+ghost use Rattle.ppp_base.specs.Numbers.{is_digit, may_be_number, number_of};
+ghost use Rattle.ppp_base.specs.declared.numbers.LeadingZeros.TheVariants.{Refused};
 ghost use Rattle.ppp_report.specs.Text.{After, HasNoDigit};
 
 use ppp_base::{LeadingZeros, read_number};
+
+// One digit more fits behind a value up to this in any case.
+const MOST_TENTH: u64 = 1_844_674_407_370_955_159;
 
 // How many digits the text begins with.
 fn digits(text: &[u8]) -> usize
@@ -19,6 +23,45 @@ fn digits(text: &[u8]) -> usize
     text.len()
 }
 
+// Whether digits have no leading zeros, and are some.
+fn may_be_number(digits: &[u8]) -> bool
+    ensures { result ≡ may_be_number Refused digits.now }
+{
+    match digits {
+        [] => false,
+        [_] => true,
+        [first, ..] => *first != b'0',
+    }
+}
+
+// The number from 0 to the most that digits spell. What may not fit on the way is read with room for it.
+fn spelled(digits: &[u8], most: u64) -> Option<u64>
+    requires digits { (k : ℕ) → k < length digits.now → is_digit (slice_index digits.now k) ≡ true }
+    requires form { may_be_number Refused digits.now ≡ true }
+    ensures { result ≡ number_of Refused 0 most digits.now }
+{
+    let mut value = 0u64;
+    for digit in digits {
+        if MOST_TENTH < value {
+            return read_number(digits, LeadingZeros::Refused, 0, most);
+        }
+        value = value * 10 + u64::from(*digit - b'0');
+    }
+    if most < value { None } else { Some(value) }
+}
+
+// The number from 0 to the most that digits spell without leading zeros.
+fn read(digits: &[u8], most: u64) -> Option<u64>
+    requires { (k : ℕ) → k < length digits.now → is_digit (slice_index digits.now k) ≡ true }
+    ensures { result ≡ number_of Refused 0 most digits.now }
+{
+    if may_be_number(digits) {
+        spelled(digits, most)
+    } else {
+        None
+    }
+}
+
 /// The number that the text begins with, and what follows it. It has no leading zeros, and no digit follows it.
 pub fn number(text: &[u8], most: u64) -> Option<(u64, &[u8])>
     ensures sound { IfSome result (λ r. (r.0 ≤ most) × (text.now ≡ decimal r.0 ++ r.1.now)) }
@@ -26,7 +69,7 @@ pub fn number(text: &[u8], most: u64) -> Option<(u64, &[u8])>
         → MatchOption result ⊥ (λ r. (r.0 ≡ n) × (r.1.now ≡ rest)) }
 {
     let end = digits(text);
-    let Some(value) = read_number(&text[..end], LeadingZeros::Refused, 0, most) else {
+    let Some(value) = read(&text[..end], most) else {
         return None;
     };
     Some((value, &text[end..]))
