@@ -16,7 +16,7 @@ command -v rustc >/dev/null || { echo "skipped: there is no rustc"; exit 0; }
 work=$(mktemp -d)
 trap 'rm -rf "$work"' EXIT
 rustc -O -o "$work/yardstick" "$yardstick"
-(cd crates/bench_gather && rt run) >/dev/null 2>&1
+(cd crates/bench_gather && rt run <stdin) >/dev/null 2>&1
 
 for mode in order behind far; do
     python3 "$maker" 1 "$pieces" "$mode" >"$work/$mode"
