@@ -6,3 +6,4 @@ pub mod PlainFacts
 pub mod MemberFacts
 pub mod ReplayFacts
 pub mod LogFacts
+pub mod CountFacts

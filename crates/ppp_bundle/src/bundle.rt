@@ -1,8 +1,9 @@
 ghost use Rattle.std.specs.Prelude.{◌≡◌, ℕ, ◌+◌, ◌<◌, ◌≤◌, ◌^◌, ◌↔◌, [], ◌∷◌, Some, None, IfSome, IfOk, IfNone, IsSome, OnSome, MatchOption, option_map};
 ghost use Rattle.ppp_base.specs.declared.hook_target.HookTarget.TheVariants.{Unit as OfUnit};
 ghost use Rattle.ppp_base.specs.Stepped.{IsTaken, OnTaken, IfStale};
+ghost use Rattle.ppp_hooks.specs.HookCounts.{JobCounts, MachineCounts};
 ghost use Rattle.ppp_hooks.specs.HookFacts.{no_facts};
-ghost use Rattle.ppp_hooks.specs.HookPast.{ends_in, running_in, starts_in};
+ghost use Rattle.ppp_hooks.specs.HookPast.{ends_in, not_started_in, running_in, starts_in};
 ghost use Rattle.ppp_hooks.specs.HookWords.{words_of_start};
 ghost use Rattle.ppp_mark.specs.Log.{no_marks};
 ghost use Rattle.ppp_mark.specs.Scripts.{LogLaw, LogSettled, said_in};
@@ -10,7 +11,7 @@ ghost use Rattle.ppp_bundle.specs.Gathers.{Gathered};
 ghost use Rattle.ppp_bundle.specs.Replay.{Replay};
 ghost use Rattle.ppp_bundle.specs.Sound.{IsGoing, IsSound};
 ghost use Rattle.ppp_bundle.specs.State.{is_open};
-ghost use Rattle.ppp_bundle.specs.UnitPart.{IsFresh, IsPlainEvent, MayCome, UnitPart, after_event, after_step};
+ghost use Rattle.ppp_bundle.specs.UnitPart.{EventCounts, IsFresh, IsPlainEvent, MayCome, UnitPart, after_event, after_step};
 
 use crate::event::BundleEvent;
 use crate::outbox::{BundleEnd, GivenList, Sending, SentList, UnitCounts};
@@ -44,6 +45,7 @@ impl<S: Spawner> Model for Bundle<S> {
 
 impl<S: Spawner> UnitCore<S> {
     // One event, and then the marks are counted.
+    #[tactic(auto, using(crate::proofs::CountFacts::looked_counts))]
     fn step(&mut self, event: BundleEvent<S>, secrets: &SecretsPair) -> Stepped<BundleEvent<S>>
         requires sound { IsSound self.old }
         requires may { MayCome event self.old }
@@ -52,6 +54,7 @@ impl<S: Spawner> UnitCore<S> {
         requires given { self.old.given ≡ [] }
         ensures taken { IsTaken result ↔ IsFresh event self.old }
         ensures part { OnTaken result (self.new ≡ after_step secrets.now event (record { gather = self.old.gather; packets = [] }) self.old) }
+        ensures counts { (t f : ℕ) → EventCounts S.tries S.faults t f event self.old → OnTaken result (MachineCounts S.tries S.faults t f self.new.scripts.machine) }
         ensures stale { IfStale result (λ back. (back ≡ event) × (self.new ≡ self.old)) }
         ensures sound { IsSound self.new }
     {
@@ -70,7 +73,7 @@ impl<S: Spawner> UnitCore<S> {
     }
 
     // What an event does.
-    #[tactic(auto, using(crate::proofs::SoundFacts::going, crate::proofs::SoundFacts::over_going, crate::proofs::PlainFacts::last_out))]
+    #[tactic(auto, using(crate::proofs::SoundFacts::going, crate::proofs::SoundFacts::over_going, crate::proofs::PlainFacts::last_out, crate::proofs::CountFacts::moved_counts))]
     fn apply(&mut self, event: BundleEvent<S>, secrets: &SecretsPair) -> Stepped<BundleEvent<S>>
         requires sound { IsSound self.old }
         requires may { MayCome event self.old }
@@ -80,6 +83,7 @@ impl<S: Spawner> UnitCore<S> {
         ensures taken { IsTaken result ↔ IsFresh event self.old }
         ensures new { OnTaken result (self.new ≡ after_event secrets.now event [] self.old) }
         ensures going { OnTaken result (IsGoing self.new) }
+        ensures counts { (t f : ℕ) → EventCounts S.tries S.faults t f event self.old → OnTaken result (MachineCounts S.tries S.faults t f self.new.scripts.machine) }
         ensures stale { IfStale result (λ back. (back ≡ event) × (self.new ≡ self.old)) }
     {
         match event {
@@ -120,6 +124,7 @@ impl<S: Spawner> Bundle<S> {
         ensures time { IfOk result (λ b. b.time ≡ 0) }
         ensures scripts { IfOk result (λ b. b.scripts ≡ record { machine = record { target = OfUnit unit; facts = no_facts; spawner = Some spawner }; log = no_marks loglimit }) }
         ensures live { IfOk result (λ b. b.live ≡ None) }
+        ensures counts_from { IfOk result (λ b. MachineCounts S.tries S.faults (S.tries spawner) (S.faults spawner) b.scripts.machine) }
         ensures waits { IfOk result (λ b. (b.sent ≡ []) × (b.given ≡ []) × (b.ended ≡ None)) }
         ensures counts { IfOk result (λ b. b.counts ≡ record { not_open = 0; stranger = 0; too_big = 0; bad_inner = 0 }) }
     {
@@ -155,6 +160,7 @@ impl<S: Spawner> Bundle<S> {
         requires given { self.old.given ≡ [] }
         ensures taken { IsTaken result ↔ IsFresh event self.old }
         ensures part { OnTaken result (UnitPart secrets.now event self.old self.new) }
+        ensures counts { (t f : ℕ) → EventCounts S.tries S.faults t f event self.old → OnTaken result (MachineCounts S.tries S.faults t f self.new.scripts.machine) }
         ensures stale { IfStale result (λ back. (back ≡ event) × (self.new ≡ self.old)) }
     {
         self.core.step(event, secrets)
@@ -163,10 +169,13 @@ impl<S: Spawner> Bundle<S> {
     /// The script that was started, if its job hasn't been taken. The spawner goes with it. It takes no memory.
     pub fn take_job(&mut self) -> Option<HookJob<S>>
         ensures some { IsSome result ↔ (IsSome self.old.scripts.machine.spawner × (ends_in (said_in self.old.scripts.log.past) < starts_in (said_in self.old.scripts.log.past))) }
+        ensures job { IfSome result (λ job. (job.target ≡ self.old.scripts.machine.target) × (job.number ≡ starts_in (said_in self.old.scripts.log.past))
+            × (job.not_started ≡ not_started_in (said_in self.old.scripts.log.past))) }
         ensures words { IfSome result (λ job. words_of_start self.old.scripts.machine.target self.old.scripts.machine.facts.last ≡ Some job.words) }
         ensures spawner { IfSome result (λ job. self.old.scripts.machine.spawner ≡ Some job.spawner) }
         ensures taken { OnSome result (self.new ≡ record self.old { scripts = record self.old.scripts { machine = record self.old.scripts.machine { spawner = None } } }) }
         ensures none { IfNone result (self.new ≡ self.old) }
+        ensures counts { (t f : ℕ) → MachineCounts S.tries S.faults t f self.old.scripts.machine → IfSome result (JobCounts S.tries S.faults t f) }
     {
         self.core.scripts.take_job()
     }
