@@ -7,3 +7,5 @@ pub mod MemberFacts
 pub mod ReplayFacts
 pub mod LogFacts
 pub mod CountFacts
+pub mod CallMoments
+pub mod CloseMoments
