@@ -9,3 +9,4 @@ pub mod LogFacts
 pub mod CountFacts
 pub mod CallMoments
 pub mod CloseMoments
+pub mod MidMoments
