@@ -10,3 +10,4 @@ pub mod CountFacts
 pub mod CallMoments
 pub mod CloseMoments
 pub mod MidMoments
+pub mod EventMoments
