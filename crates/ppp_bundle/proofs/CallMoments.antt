@@ -72,7 +72,7 @@ abbrev pub sent_all : List Member → List Packet → List Sending → List Send
 sent_all members [] sent = sent
 sent_all members (p ∷ packets) sent = sent_all members packets (sent ++ whole_on members IPCP (laid_packet p))
 
-one_sent : {S : Type 0} (m : Option MrruPair) (l : Live) (protocol : ℕ) (information : List ℕ) (u : UnitState S) → m ≡ None
+pub one_sent : {S : Type 0} (m : Option MrruPair) (l : Live) (protocol : ℕ) (information : List ℕ) (u : UnitState S) → m ≡ None
     → record u { sent = u.sent ++ sent_as l m protocol information; live = Some (left_by_sending l m protocol information) } ≡ record u { sent = u.sent ++ whole_on l.members protocol information; live = Some l }
 one_sent None l protocol information u e = refl
 one_sent (Some mrru) l protocol information u e = absurd (let f : Some mrru ≡ None = e in cc)
@@ -84,7 +84,7 @@ sends_all_is {S = S} (p ∷ packets) u l e =
     ap (λ (v : UnitState S). sends_all packets v) (one_sent l.mrru l IPCP (laid_packet p) u e)
     ∙ sends_all_is packets (record u { sent = u.sent ++ whole_on l.members IPCP (laid_packet p) }) l e
 
-head_link : List MemberView → ℕ
+pub head_link : List MemberView → ℕ
 head_link [] = 0
 head_link (v ∷ views) = v.link
 

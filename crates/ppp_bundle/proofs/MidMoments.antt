@@ -132,7 +132,7 @@ finishes terms past rest v l true true live plain target ended r asked is peer n
 finishes terms past rest v l true false live plain target ended r asked is peer none =
     inr (closed_over terms past v l (ending IpcpFailed 0) live plain target r (asked ∙ none refl) (is, peer))
 
-has_plain : (m : Option MrruPair) (members : List Member) (past : List Moment) → m ≡ None → HasMember m members past → views_of members ≡ option_to_list (entered_in past)
+pub has_plain : (m : Option MrruPair) (members : List Member) (past : List Moment) → m ≡ None → HasMember m members past → views_of members ≡ option_to_list (entered_in past)
 has_plain None members past e h = h
 has_plain (Some mrru) members past e h = absurd (let f : Some mrru ≡ None = e in cc)
 
