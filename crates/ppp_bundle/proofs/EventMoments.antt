@@ -34,18 +34,18 @@ pub record Dead {S : Type 0} (terms : Terms) (past : List Moment) (u : UnitState
   pub live : u.live ≡ None
   pub how : LivesOrEnds terms past u None u.ended
 
-dead_of : {S : Type 0} (terms : Terms) (past : List Moment) (u : UnitState S) → Over terms past u → Dead terms past u
+pub dead_of : {S : Type 0} (terms : Terms) (past : List Moment) (u : UnitState S) → Over terms past u → Dead terms past u
 dead_of terms past u over = record { live = over.live; how = subst (λ (e : Option BundleEnd). LivesOrEnds terms past u None e) (sym over.ended) over.ends }
 
 pub either_of : {S : Type 0} (terms : Terms) (past : List Moment) (asked : List (Call Around)) (u : UnitState S) → Mid terms past asked u ⊎ Over terms past u → Mid terms past asked u ⊎ Dead terms past u
 either_of terms past asked u (inl m) = inl m
 either_of terms past asked u (inr o) = inr (dead_of terms past u o)
 
-dead_stays : {S : Type 0} (terms : Terms) (past : List Moment) (found : Option Ending) (u : UnitState S) → Dead terms past u → Dead terms past (closed_if found u)
+pub dead_stays : {S : Type 0} (terms : Terms) (past : List Moment) (found : Option Ending) (u : UnitState S) → Dead terms past u → Dead terms past (closed_if found u)
 dead_stays terms past None u dead = dead
 dead_stays terms past (Some end) u dead = subst (λ (o : Option Live). Dead terms past (closed_of o end u)) (sym dead.live) dead
 
-keeps_if : {S : Type 0} (found : Option Ending) (u : UnitState S) → Keeps u (closed_if found u)
+pub keeps_if : {S : Type 0} (found : Option Ending) (u : UnitState S) → Keeps u (closed_if found u)
 keeps_if None u = record { sent = refl; given = refl; counts = refl; time = refl }
 keeps_if (Some end) u = keeps_closed u.live end u
 
@@ -57,25 +57,21 @@ flows_keep terms since past counts old new k f = record {
 }
 
 -- the two limits
-idle_by : {S : Type 0} (terms : Terms) (past : List Moment) (found : Option Ending) (u : UnitState S) → terms.mrru ≡ None → idle_end u.time u.live ≡ found → Mid terms past [] u
-    → (Mid terms past [] (closed_if found u) × (idle_end (closed_if found u).time (closed_if found u).live ≡ None)) ⊎ Over terms past (closed_if found u)
-idle_by terms past None u plain e m = inl (m, e)
-idle_by {S = S} terms past (Some end) u plain e m =
+pub idle_over : {S : Type 0} (terms : Terms) (past : List Moment) (end : Ending) (u : UnitState S) → terms.mrru ≡ None → idle_end u.time u.live ≡ Some end → Mid terms past [] u → Over terms past (closed end u)
+idle_over {S = S} terms past end u plain e m =
     let p = is_past (is_up m.l) Idle m.l.wish.idle_s u.time m.l.passed_at end (ap (λ (o : Option Live). idle_end u.time o) (sym m.live) ∙ e) in
-    inr (subst (λ (x : Ending). Over terms past (closed x u)) p.end_is
+    subst (λ (x : Ending). Over terms past (closed x u)) p.end_is
     (closed_over terms past u m.l (ending Idle (min (u.time - m.l.passed_at) most_elapsed)) m.live plain m.target m.reached m.asked_is
     (limit_reason terms past u.time m.l.wish.idle_s terms.wish.idle_s m.l.passed_at (passed_in terms past) (is_up m.l) Idle end m.reached.time_is
-      (up_is terms m.l.ipcp (calls_in past) m.reached.ipcp) (ap (λ (w : UnitWish). w.idle_s) m.reached.wish) m.reached.passed_at p)))
+      (up_is terms m.l.ipcp (calls_in past) m.reached.ipcp) (ap (λ (w : UnitWish). w.idle_s) m.reached.wish) m.reached.passed_at p))
 
-connect_by : {S : Type 0} (terms : Terms) (past : List Moment) (found : Option Ending) (u : UnitState S) → terms.mrru ≡ None → connect_end u.time u.live ≡ found → Mid terms past [] u
-    → (Mid terms past [] (closed_if found u) × (connect_end (closed_if found u).time (closed_if found u).live ≡ None)) ⊎ Over terms past (closed_if found u)
-connect_by terms past None u plain e m = inl (m, e)
-connect_by {S = S} terms past (Some end) u plain e m =
+pub connect_over : {S : Type 0} (terms : Terms) (past : List Moment) (end : Ending) (u : UnitState S) → terms.mrru ≡ None → connect_end u.time u.live ≡ Some end → Mid terms past [] u → Over terms past (closed end u)
+connect_over {S = S} terms past end u plain e m =
     let p = is_past (is_up m.l) ConnectTime m.l.wish.maxconnect_s u.time m.l.opened_at end (ap (λ (o : Option Live). connect_end u.time o) (sym m.live) ∙ e) in
-    inr (subst (λ (x : Ending). Over terms past (closed x u)) p.end_is
+    subst (λ (x : Ending). Over terms past (closed x u)) p.end_is
     (closed_over terms past u m.l (ending ConnectTime (min (u.time - m.l.opened_at) most_elapsed)) m.live plain m.target m.reached m.asked_is
     (limit_reason terms past u.time m.l.wish.maxconnect_s terms.wish.maxconnect_s m.l.opened_at (opened_in terms past) (is_up m.l) ConnectTime end m.reached.time_is
-      (up_is terms m.l.ipcp (calls_in past) m.reached.ipcp) (ap (λ (w : UnitWish). w.maxconnect_s) m.reached.wish) m.reached.opened_at p)))
+      (up_is terms m.l.ipcp (calls_in past) m.reached.ipcp) (ap (λ (w : UnitWish). w.maxconnect_s) m.reached.wish) m.reached.opened_at p))
 
 -- the marks are counted
 crowd_by : {S : Type 0} (terms : Terms) (past : List Moment) (b : Bool) (u : UnitState S) → terms.mrru ≡ None → nat_le 900 (since_made u.scripts.log.past) ≡ b → Mid terms past [] u → Calm u

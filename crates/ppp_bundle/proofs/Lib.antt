@@ -11,3 +11,4 @@ pub mod CallMoments
 pub mod CloseMoments
 pub mod MidMoments
 pub mod EventMoments
+pub mod StepMoments

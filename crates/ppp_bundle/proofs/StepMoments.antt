@@ -11,7 +11,7 @@ use Rattle.ppp_hooks.specs.HookState.{DoneState}
 use Rattle.ppp_ipcp.specs.declared.ipcp.Ipcp.{Ipcp}
 use Rattle.ppp_ipcp.specs.declared.wish.IpWish.{IpWish}
 use Rattle.ppp_ipcp.specs.Around.{Around, around}
-use Rattle.ppp_ipcp.specs.Session.{session_after}
+use Rattle.ppp_ipcp.specs.Session.{IpcpCall, session_after}
 use Rattle.ppp_mark.specs.Marks.{in_mark}
 use Rattle.ppp_mp.specs.StandsFor.{GatherNow}
 use Rattle.ppp_mp.specs.Schedule.{SendingNow}
@@ -20,6 +20,7 @@ use Rattle.ppp_secrets.specs.declared.secrets.SecretsPair.{SecretsPair}
 use Rattle.ppp_bundle.specs.declared.live.IpCall.TheVariants.{Opens, ComesUp, Hears, Ticks}
 use Rattle.ppp_bundle.specs.declared.live.Live.{Live}
 use Rattle.ppp_bundle.specs.declared.member.Member.{Member}
+use Rattle.ppp_bundle.specs.declared.outbox.Ending.{Ending}
 use Rattle.ppp_bundle.specs.declared.outbox.UnitCounts.{UnitCounts}
 use Rattle.ppp_bundle.specs.Closing.{closed_if, connect_end, connected_long, idle_end, idled}
 use Rattle.ppp_bundle.specs.History.{Moment, Enters, Goes, Brings, Carries, Passes, Calls, Terms, asked_in, counted, counts_in, drops_by, entered_in, given_by, given_in, has_finished_after, calls_in, is_up_in, mru_in, passed_in, rest_of, sends_by, time_in, to_begin, whole_by, whole_in}
@@ -31,7 +32,7 @@ use Rattle.ppp_bundle.specs.State.{UnitState, is_up}
 use Rattle.ppp_bundle.specs.UnitPart.{begun, entered, entered_of, script_over, ticked_unit, timed}
 use Rattle.ppp_bundle.proofs.CallMoments.{call_made}
 use Rattle.ppp_bundle.proofs.CloseMoments.{Over}
-use Rattle.ppp_bundle.proofs.EventMoments.{Dead, Did, call_on, calm_on, connect_by, dead_stays, either_of, flows_keep, idle_by, keeps_if}
+use Rattle.ppp_bundle.proofs.EventMoments.{Dead, Did, call_on, calm_on, connect_over, dead_of, dead_stays, either_of, flows_keep, idle_over, keeps_if}
 use Rattle.ppp_bundle.proofs.MidMoments.{Calm, Flows, Mid, call_time, has_plain}
 
 -- What an event does, before the marks are counted.
@@ -108,7 +109,7 @@ entered_is {S = S} secrets link stay mru l u live e =
     ap (λ (o : Option Live). entered_of o secrets link stay mru u) live
     ∙ ap (λ (ms : List Member). begun ms secrets (record u { scripts = marked (in_mark u.time link stay) u.scripts; live = Some (record l { members = with_member (member link stay mru) ms }) })) e
 
-second : {S : Type 0} (terms : Terms) (past : List Moment) (counts : UnitCounts) (secrets : SecretsPair) (link mru : ℕ) (c : _) (u : UnitState S) → terms.mrru ≡ None → entered_in past ≡ None
+second : {S : Type 0} (terms : Terms) (past : List Moment) (counts : UnitCounts) (secrets : SecretsPair) (link mru : ℕ) (c : IpcpCall) (u : UnitState S) → terms.mrru ≡ None → entered_in past ≡ None
     → Did terms (Calls c ∷ Enters link mru ∷ []) past (by_itself comes_up ∷ []) counts u → Calm u → Does terms past (Enters link mru ∷ []) counts (called secrets ComesUp u)
 second {S = S} terms past counts secrets link mru c u plain none did calm = by_case did.stands
   where
@@ -199,19 +200,65 @@ pub record Looks {S : Type 0} (terms : Terms) (past : List Moment) (u : UnitStat
 over_looks : {S : Type 0} (terms : Terms) (past : List Moment) (u : UnitState S) → Dead terms past u → Looks terms past u
 over_looks terms past u dead = record { stands = inr dead; calm = calm_dead terms past u dead }
 
--- what an end that isn't there leaves
-same_if : {S : Type 0} (found : Option _) (u : UnitState S) → u.live ≡ None → closed_if found u ≡ u
-same_if None u e = refl
-same_if (Some end) u e = rw e refl
+connects_by : {S : Type 0} (terms : Terms) (past : List Moment) (found : Option Ending) (u : UnitState S) → terms.mrru ≡ None → idle_end u.time u.live ≡ None → connect_end u.time u.live ≡ found
+    → Mid terms past [] u → Looks terms past (closed_if found u)
+connects_by terms past None u plain idle e m = record { stands = inl m; calm = record { idle = idle; connect = e } }
+connects_by terms past (Some end) u plain idle e m = over_looks terms past (closed end u) (dead_of terms past (closed end u) (connect_over terms past end u plain e m))
 
-connect_looks : {S : Type 0} (terms : Terms) (past : List Moment) (u : UnitState S) → terms.mrru ≡ None → idle_end u.time u.live ≡ None → Mid terms past [] u ⊎ Dead terms past u → Looks terms past (connected_long u)
-connect_looks {S = S} terms past u plain idle (inl m) = by_found (connect_end u.time u.live) refl
-  where
-    by_found : (found : Option _) → connect_end u.time u.live ≡ found → Looks terms past (closed_if found u)
-    by_found None e = record { stands = inl m; calm = record { idle = idle; connect = e } }
-    by_found (Some end) e = by_case (connect_by terms past (Some end) u plain e m)
-      where
-        by_case : _ → Looks terms past (closed_if (Some end) u)
-        by_case (inl both) = record { stands = inl both.0; calm = record { idle = ?; connect = both.1 } }
-        by_case (inr o) = ?
-connect_looks terms past u plain idle (inr dead) = over_looks terms past (connected_long u) (dead_stays terms past (connect_end u.time u.live) u dead)
+idles_by : {S : Type 0} (terms : Terms) (past : List Moment) (found : Option Ending) (u : UnitState S) → terms.mrru ≡ None → idle_end u.time u.live ≡ found
+    → Mid terms past [] u → Looks terms past (connected_long (closed_if found u))
+idles_by terms past None u plain e m = connects_by terms past (connect_end u.time u.live) u plain e refl m
+idles_by {S = S} terms past (Some end) u plain e m =
+    let v : UnitState S = closed end u in
+    over_looks terms past (connected_long v) (dead_stays terms past (connect_end v.time v.live) v (dead_of terms past v (idle_over terms past end u plain e m)))
+
+limits_look : {S : Type 0} (terms : Terms) (past : List Moment) (u : UnitState S) → terms.mrru ≡ None → Mid terms past [] u ⊎ Dead terms past u → Looks terms past (connected_long (idled u))
+limits_look terms past u plain (inl m) = idles_by terms past (idle_end u.time u.live) u plain refl m
+limits_look {S = S} terms past u plain (inr dead) =
+    let v : UnitState S = idled u in
+    over_looks terms past (connected_long v) (dead_stays terms past (connect_end v.time v.live) v (dead_stays terms past (idle_end u.time u.live) u dead))
+
+limits_flow : {S : Type 0} (terms : Terms) (since past : List Moment) (counts : UnitCounts) (u : UnitState S) → Flows terms since past counts u → Flows terms since past counts (connected_long (idled u))
+limits_flow {S = S} terms since past counts u flows =
+    let v : UnitState S = idled u in
+    flows_keep terms since past counts v (connected_long v) (keeps_if (connect_end v.time v.live) v) (flows_keep terms since past counts u v (keeps_if (idle_end u.time u.live) u) flows)
+
+pub does_tick : {S : Type 0} (terms : Terms) (past : List Moment) (secrets : SecretsPair) (now : ℕ) (u : UnitState S) → terms.mrru ≡ None → (m : Mid terms past [] u)
+    → u.sent ≡ [] → u.given ≡ [] → Does terms past (Passes (timed now u).time ∷ []) u.counts (ticked_unit secrets now u)
+does_tick {S = S} terms past secrets now u plain m sent given =
+    let u1 : UnitState S = timed now u in
+    let m1 : Mid terms (Passes u1.time ∷ past) (ticks ∷ []) u1 = record {
+      l = m.l;
+      live = m.live;
+      reached = reached_passes terms past u.time u1.time u.gather m.l plain m.reached m.asked_is;
+      asked_is = refl;
+      going = m.going;
+      ended = m.ended;
+      target = m.target;
+    } in
+    let flows : Flows terms (Passes u1.time ∷ []) past u.counts u1 = flows_first terms (Passes u1.time) past u.counts u1
+      (sent ∙ nothing_whole (entered_in past)) (given ∙ nothing_of (is_up_in terms past)) refl in
+    let d = call_on terms (Passes u1.time ∷ []) past u.counts secrets Ticks (ticks ∷ []) [] u1 plain m1 refl
+      (λ f. ticks_quietly terms.wish.ip m.l.ipcp (around_of secrets m.l) u1.time (m.reached.initial f)) (λ h. refl) flows in
+    let v : UnitState S = called secrets Ticks u1 in
+    let c = call_made secrets u1.time Ticks m.l in
+    let looks = limits_look terms (Calls c ∷ Passes u1.time ∷ past) v plain (either_of terms (Calls c ∷ Passes u1.time ∷ past) [] v d.stands) in
+    record {
+      since = Calls c ∷ Passes u1.time ∷ [];
+      own_is = refl;
+      stands = looks.stands;
+      calm = looks.calm;
+      flows = limits_flow terms (Calls c ∷ Passes u1.time ∷ []) past u.counts v d.flows;
+    }
+
+-- A SCRIPT'S END
+
+pub does_over : {S : Type 0} (terms : Terms) (past : List Moment) (done : DoneState S) (u : UnitState S) → (m : Mid terms past [] u) → Calm u
+    → u.sent ≡ [] → u.given ≡ [] → Does terms past [] u.counts (script_over done u)
+does_over terms past done u m calm sent given = record {
+  since = [];
+  own_is = refl;
+  stands = inl (record { l = m.l; live = m.live; reached = m.reached; asked_is = m.asked_is; going = m.going; ended = m.ended; target = m.target });
+  calm = record { idle = calm.idle; connect = calm.connect };
+  flows = record { sends = rw sent (append-nil (whole_in terms past)); gives = rw given (append-nil (given_in terms past)); counts_are = refl };
+}
