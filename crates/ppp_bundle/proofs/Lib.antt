@@ -12,3 +12,4 @@ pub mod CloseMoments
 pub mod MidMoments
 pub mod EventMoments
 pub mod StepMoments
+pub mod PassMoments

@@ -15,11 +15,11 @@ use Rattle.ppp_bundle.specs.Frames.{Inner, carried, inner, not_open, too_big, wi
 use Rattle.ppp_bundle.specs.History.{Moment, Carries, Drop, Terms, NotOpen, TooBig, asked_in, calls_in, counted, drops_by, entered_in, given_by, is_up_in, most_by, most_in, passed_in, sends_by, time_in, whole_by}
 use Rattle.ppp_bundle.specs.Lives.{CutsAll, GathersAll, HasMember, Reached}
 use Rattle.ppp_bundle.specs.Member.{views_of}
-use Rattle.ppp_bundle.specs.Sends.{sends, whole_on}
+use Rattle.ppp_bundle.specs.Sends.{sending, sends, whole_on}
 use Rattle.ppp_bundle.specs.State.{UnitState, is_up, most_of, most_to_peer}
 use Rattle.ppp_bundle.proofs.CallMoments.{head_link, one_sent, up_is}
 use Rattle.ppp_bundle.proofs.MidMoments.{Calm, Flows, Mid, fresh_calm, has_plain}
-use Rattle.ppp_bundle.proofs.StepMoments.{Does, flows_first, nothing_of}
+use Rattle.ppp_bundle.proofs.StepMoments.{Does, flows_first, nothing_of, nothing_whole}
 
 head_mru : List MemberView → ℕ
 head_mru [] = 0
@@ -41,7 +41,7 @@ pub whole_is : (members : List Member) (entered : Option MemberView) (protocol :
 whole_is [] None protocol information e = refl
 whole_is [] (Some v) protocol information e = absurd (let h : [] ≡ v ∷ [] = e in cc)
 whole_is (m ∷ members) None protocol information e = absurd (let h : record { link = m.link; mru = m.mru } ∷ views_of members ≡ [] = e in cc)
-whole_is (m ∷ members) (Some v) protocol information e = ap (λ (link : ℕ). Rattle.ppp_bundle.specs.Sends.sending link protocol information ∷ []) (ap head_link e)
+whole_is (m ∷ members) (Some v) protocol information e = ap (λ (link : ℕ). sending link protocol information ∷ []) (ap head_link e)
 
 -- A DATAGRAM FOR THE PEER
 
@@ -96,6 +96,24 @@ carries_by {S = S} terms past datagram u l up fits plain m same calm sent given 
     most = most_is terms past u.time u.gather l plain r
     w : UnitState S
     w = record u { live = Some l }
+    dropped : (up fits : Bool) → is_up_in terms past ≡ up → nat_le (length datagram) (most_in terms past) ≡ fits → (counts : UnitCounts)
+      → (if up && fits then time_in terms past else passed_in terms past) ≡ passed_in terms past → (if up && fits then inner IP datagram ∷ [] else []) ≡ []
+      → counts ≡ counted (if up then (if fits then None else Some TooBig) else Some NotOpen) u.counts → Does terms past (Carries datagram ∷ []) u.counts (record w { counts = counts })
+    dropped up fits e f counts at none is =
+        let v : UnitState S = record w { counts = counts } in
+        record {
+          since = Carries datagram ∷ [];
+          own_is = refl;
+          stands = inl (record { l = l; live = refl; reached = reached_carries terms past u.time u.gather l datagram l.passed_at plain r m.asked_is
+            (r.passed_at ∙ sym at ∙ sym (both_is (is_up_in terms past) (nat_le (length datagram) (most_in terms past)) up fits (time_in terms past) (passed_in terms past) e f));
+            asked_is = refl; going = m.going; ended = m.ended; target = m.target });
+          calm = record { idle = calm.idle; connect = calm.connect };
+          flows = flows_first terms (Carries datagram) past u.counts v
+            (sent ∙ nothing_whole (entered_in past) ∙ ap (λ (x : List Inner). whole_by (entered_in past) x)
+              (sym (both_is (is_up_in terms past) (nat_le (length datagram) (most_in terms past)) up fits (inner IP datagram ∷ []) [] e f ∙ none)))
+            (given ∙ nothing_of (is_up_in terms past))
+            (is ∙ ap (λ (d : Option Drop). counted d u.counts) (sym (nested_is (is_up_in terms past) (nat_le (length datagram) (most_in terms past)) up fits None (Some TooBig) (Some NotOpen) e f)));
+        }
     by_case : (up fits : Bool) → is_up_in terms past ≡ up → nat_le (length datagram) (most_in terms past) ≡ fits
       → Does terms past (Carries datagram ∷ []) u.counts (if up then (if fits then with_pass (sends IP datagram w) else too_big w) else not_open w)
     by_case true true e f =
@@ -114,6 +132,15 @@ carries_by {S = S} terms past datagram u l up fits plain m same calm sent given 
             (given ∙ nothing_of (is_up_in terms past))
             (ap (λ (d : Option Drop). counted d u.counts) (sym (nested_is (is_up_in terms past) (nat_le (length datagram) (most_in terms past)) true true None (Some TooBig) (Some NotOpen) e f)));
         })
-    by_case true false e f = dropped true false e f (too_big w) refl refl refl refl refl refl refl refl
-    by_case false true e f = dropped false true e f (not_open w) refl refl refl refl refl refl refl refl
-    by_case false false e f = dropped false false e f (not_open w) refl refl refl refl refl refl refl refl
+    by_case true false e f = dropped true false e f (too_big w).counts refl refl refl
+    by_case false true e f = dropped false true e f (not_open w).counts refl refl refl
+    by_case false false e f = dropped false false e f (not_open w).counts refl refl refl
+
+pub does_carry : {S : Type 0} (terms : Terms) (past : List Moment) (datagram : List ℕ) (u : UnitState S) → terms.mrru ≡ None → (m : Mid terms past [] u) → Calm u → u.sent ≡ [] → u.given ≡ []
+    → Does terms past (Carries datagram ∷ []) u.counts (carried datagram u)
+does_carry {S = S} terms past datagram u plain m calm sent given =
+    let same : u ≡ record u { live = Some m.l } = ap (λ (o : Option Live). record u { live = o }) m.live in
+    subst (λ (v : UnitState S). Does terms past (Carries datagram ∷ []) u.counts (carried datagram v)) (sym same)
+    (carries_by terms past datagram u m.l (is_up m.l) (nat_le (length datagram) (most_to_peer m.l)) plain
+      (record { l = m.l; live = refl; reached = m.reached; asked_is = m.asked_is; going = m.going; ended = m.ended; target = m.target }) refl
+      (subst (λ (v : UnitState S). Calm v) same calm) sent given refl refl)
