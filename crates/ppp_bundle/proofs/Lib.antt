@@ -13,3 +13,4 @@ pub mod MidMoments
 pub mod EventMoments
 pub mod StepMoments
 pub mod PassMoments
+pub mod BringMoments
