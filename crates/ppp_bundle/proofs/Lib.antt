@@ -14,3 +14,4 @@ pub mod EventMoments
 pub mod StepMoments
 pub mod PassMoments
 pub mod BringMoments
+pub mod LeaveMoments
