@@ -94,3 +94,22 @@ has_is link (m ∷ members) = by_first (is_link link m) m.mru (has_link link mem
 and_false : {T : Type 0} (up : Bool) (x y : T) → y ≡ (if up && false then x else y)
 and_false true x y = refl
 and_false false x y = refl
+
+-- what the history says of a frame of a member, by its protocol
+abbrev pub heard_with : Terms → SecretsPair → List Moment → Around
+heard_with terms secrets past = around terms.allow secrets (most_in terms past)
+
+pub record OfMember (terms : Terms) (past : List Moment) (secrets : SecretsPair) (link protocol : ℕ) (information : List ℕ) (up ipcp ip : Bool) : Type 0 where
+  pub asked : asked_in terms (Brings secrets link protocol information ∷ past) ≡ (if ipcp then to_hear (heard_with terms secrets past) (packet_in information) else [])
+  pub passed : passed_in terms (Brings secrets link protocol information ∷ past) ≡ (if up && ip then time_in terms past else passed_in terms past)
+  pub gives : given_by terms (Brings secrets link protocol information) past ≡ (if up then (if ip then information ∷ [] else []) else [])
+  pub drops : drops_by terms (Brings secrets link protocol information) past ≡ (if ip && not up then Some NotOpen else None)
+
+of_member : (terms : Terms) (past : List Moment) (secrets : SecretsPair) (link protocol : ℕ) (information : List ℕ) (up ipcp ip : Bool)
+    → is_member_in link past ≡ true → is_up_in terms past ≡ up → (protocol == IPCP) ≡ ipcp → (protocol == IP) ≡ ip → OfMember terms past secrets link protocol information up ipcp ip
+of_member terms past secrets link protocol information up ipcp ip e u f g = record {
+  asked = rw (e, f) refl;
+  passed = rw (e, u, g) refl;
+  gives = rw (e, u, g) refl;
+  drops = rw (e, u, g) refl;
+}
