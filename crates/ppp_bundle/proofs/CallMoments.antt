@@ -163,8 +163,8 @@ turned_open false true ever g = refl
 turned_open true false ever g = refl
 turned_open true true ever g = g refl
 
-opened_is : (was is up open ever : Bool) → is ≡ up → open ≡ ever → (was ≡ true → ever ≡ true) → at_turn was is true open ≡ (up || ever)
-opened_is was is up open ever e f g = ap (λ (b : Bool). at_turn was is true b) f ∙ turned_open was is ever g ∙ ap (λ (b : Bool). b || ever) e
+opened_is : (was is up told ever : Bool) → is ≡ up → told ≡ ever → (was ≡ true → ever ≡ true) → at_turn was is true told ≡ (up || ever)
+opened_is was is up told ever e f g = ap (λ (b : Bool). at_turn was is true b) f ∙ turned_open was is ever g ∙ ap (λ (b : Bool). b || ever) e
 
 turned_at : (was is : Bool) (time old : ℕ) → at_turn was is time old ≡ (if is && not was then time else old)
 turned_at false false time old = refl

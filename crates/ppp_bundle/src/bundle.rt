@@ -45,7 +45,6 @@ impl<S: Spawner> Model for Bundle<S> {
 
 impl<S: Spawner> UnitCore<S> {
     // One event, and then the marks are counted.
-    #[tactic(auto, using(crate::proofs::CountFacts::looked_counts))]
     fn step(&mut self, event: BundleEvent<S>, secrets: &SecretsPair) -> Stepped<BundleEvent<S>>
         requires sound { IsSound self.old }
         requires may { MayCome event self.old }
