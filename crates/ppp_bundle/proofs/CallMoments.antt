@@ -84,7 +84,7 @@ sends_all_is {S = S} (p ∷ packets) u l e =
     ap (λ (v : UnitState S). sends_all packets v) (one_sent l.mrru l IPCP (laid_packet p) u e)
     ∙ sends_all_is packets (record u { sent = u.sent ++ whole_on l.members IPCP (laid_packet p) }) l e
 
-pub head_link : List MemberView → ℕ
+abbrev pub head_link : List MemberView → ℕ
 head_link [] = 0
 head_link (v ∷ views) = v.link
 
@@ -100,7 +100,7 @@ sent_one m members v (p ∷ packets) sent e =
     ∙ append_assoc sent (sending m.link IPCP (laid_packet p) ∷ []) (whole_by (Some v) (packets_of packets))
     ∙ ap (λ (link : ℕ). sent ++ sending link IPCP (laid_packet p) ∷ whole_by (Some v) (packets_of packets)) e
 
-sent_all_is : (members : List Member) (entered : Option MemberView) (packets : List Packet) (sent : List Sending) → views_of members ≡ option_to_list entered
+pub sent_all_is : (members : List Member) (entered : Option MemberView) (packets : List Packet) (sent : List Sending) → views_of members ≡ option_to_list entered
     → sent_all members packets sent ≡ sent ++ whole_by entered (packets_of packets)
 sent_all_is [] None packets sent e = sent_none packets sent
 sent_all_is [] (Some v) packets sent e = absurd (let f : [] ≡ v ∷ [] = e in cc)
@@ -133,7 +133,7 @@ turned_is false true w l = refl
 turned_is true false w l = refl
 turned_is true true w l = refl
 
-target_turned : {S : Type 0} (was is : Bool) (args : HookArgs) (time : ℕ) (s : ScriptLogState S) → (scripts_turned was is args time s).machine.target ≡ s.machine.target
+pub target_turned : {S : Type 0} (was is : Bool) (args : HookArgs) (time : ℕ) (s : ScriptLogState S) → (scripts_turned was is args time s).machine.target ≡ s.machine.target
 target_turned false false args time s = refl
 target_turned false true args time s = refl
 target_turned true false args time s = refl

@@ -83,6 +83,7 @@ crowd_by {S = S} terms past false u plain e m calm =
     subst₂ (λ (x : Option Live) (y : Option BundleEnd). LivesOrEnds terms past u x y) (sym m.live) (sym m.ended)
     (record { reached = m.reached; done = m.asked_is; no_reason = none_for })
   where
+    up : is_up m.l ≡ is_up_in terms past
     up = up_is terms m.l.ipcp (calls_in past) m.reached.ipcp
     none_for : (cause : CloseCause) (elapsed : ℕ) → HasReason terms past (since_made u.scripts.log.past) cause elapsed → ⊥
     none_for Idle elapsed over =
@@ -149,13 +150,14 @@ begins_mid terms past marks l u live ended target lives = record {
 
 pub begins_calm : {S : Type 0} (terms : Terms) (past : List Moment) (marks : ℕ) (l : Live) (u : UnitState S) → u.live ≡ Some l → Lives terms marks u.time u.gather l past → Calm u
 begins_calm terms past marks l u live lives =
-    let r = lives.reached in
     record {
       idle = ap (λ (o : Option Live). idle_end u.time o) live ∙ idle_none (limit_end (is_up l) Idle l.wish.idle_s u.time l.passed_at) refl;
       connect = ap (λ (o : Option Live). connect_end u.time o) live ∙ connect_none (limit_end (is_up l) ConnectTime l.wish.maxconnect_s u.time l.opened_at) refl;
     }
   where
+    r : Reached terms u.time u.gather l past
     r = lives.reached
+    up : is_up l ≡ is_up_in terms past
     up = up_is terms l.ipcp (calls_in past) r.ipcp
     idle_none : (found : Option Ending) → limit_end (is_up l) Idle l.wish.idle_s u.time l.passed_at ≡ found → found ≡ None
     idle_none None e = refl

@@ -83,7 +83,7 @@ past_by true false true cause seconds now since end f g e = absurd (let h : None
 past_by true false false cause seconds now since end f g e = absurd (let h : None ≡ Some end = e in cc)
 past_by false some long cause seconds now since end f g e = absurd (let h : None ≡ Some end = e in cc)
 
-is_past : (up : Bool) (cause : CloseCause) (seconds now since : ℕ) (end : Ending) → limit_end up cause seconds now since ≡ Some end → IsPast up cause seconds now since end
+pub is_past : (up : Bool) (cause : CloseCause) (seconds now since : ℕ) (end : Ending) → limit_end up cause seconds now since ≡ Some end → IsPast up cause seconds now since end
 is_past up cause seconds now since end e = past_by up (not (seconds == 0)) (nat_le (seconds * 1000) (now - since)) cause seconds now since end refl refl e
 
 none_by : (some long : Bool) (end : Ending) → some ≡ true → long ≡ true → (if true && some && long then Some end else None) ≡ None → ⊥
@@ -203,7 +203,7 @@ call_flows {S = S} terms since past counts secrets call l u plain r flows =
 
 -- AT THE END OF A STEP
 
-limit_reason : (terms : Terms) (past : List Moment) (time seconds seconds' since since' : ℕ) (up : Bool) (cause : CloseCause) (end : Ending)
+pub limit_reason : (terms : Terms) (past : List Moment) (time seconds seconds' since since' : ℕ) (up : Bool) (cause : CloseCause) (end : Ending)
     → time ≡ time_in terms past → up ≡ is_up_in terms past → seconds ≡ seconds' → since ≡ since'
     → IsPast up cause seconds time since end → IsOver terms past seconds' since' (min (time - since) most_elapsed)
 limit_reason terms past time seconds seconds' since since' up cause end t i s m p = record {

@@ -21,7 +21,7 @@ use Rattle.ppp_bundle.proofs.CallMoments.{head_link, one_sent, up_is}
 use Rattle.ppp_bundle.proofs.MidMoments.{Calm, Flows, Mid, fresh_calm, has_plain}
 use Rattle.ppp_bundle.proofs.StepMoments.{Does, flows_first, nothing_of, nothing_whole}
 
-head_mru : List MemberView → ℕ
+abbrev head_mru : List MemberView → ℕ
 head_mru [] = 0
 head_mru (v ∷ views) = v.mru
 
@@ -92,7 +92,9 @@ carries_by {S = S} terms past datagram u l up fits plain m same calm sent given 
   where
     r : Reached terms u.time u.gather l past
     r = subst (λ (x : Live). Reached terms u.time u.gather x past) same m.reached
+    was : (l.ipcp.core.fsm.state == 9) ≡ is_up_in terms past
     was = up_is terms l.ipcp (calls_in past) r.ipcp
+    most : most_to_peer l ≡ most_in terms past
     most = most_is terms past u.time u.gather l plain r
     w : UnitState S
     w = record u { live = Some l }

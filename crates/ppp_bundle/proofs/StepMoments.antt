@@ -22,7 +22,7 @@ use Rattle.ppp_bundle.specs.declared.live.Live.{Live}
 use Rattle.ppp_bundle.specs.declared.member.Member.{Member}
 use Rattle.ppp_bundle.specs.declared.outbox.Ending.{Ending}
 use Rattle.ppp_bundle.specs.declared.outbox.UnitCounts.{UnitCounts}
-use Rattle.ppp_bundle.specs.Closing.{closed_if, connect_end, connected_long, idle_end, idled}
+use Rattle.ppp_bundle.specs.Closing.{closed, closed_if, connect_end, connected_long, idle_end, idled}
 use Rattle.ppp_bundle.specs.History.{Moment, Enters, Goes, Brings, Carries, Passes, Calls, Terms, asked_in, counted, counts_in, drops_by, entered_in, given_by, given_in, has_finished_after, calls_in, is_up_in, mru_in, passed_in, rest_of, sends_by, time_in, to_begin, whole_by, whole_in}
 use Rattle.ppp_bundle.specs.IpCalls.{called, has_finished, ip_left, ip_tells, live_tells, around_of}
 use Rattle.ppp_bundle.specs.Lives.{CutsAll, GathersAll, HasMember, Reached, mru_of, own_in}
@@ -53,7 +53,10 @@ pub nothing_whole : (m : Option MemberView) → [] ≡ whole_by m []
 nothing_whole None = refl
 nothing_whole (Some m) = refl
 
-pub nothing_of : {T : Type 0} (up : Bool) → [] ≡ (if up then ([] {A = T}) else [])
+abbrev pub no_datagram : List (List ℕ)
+no_datagram = []
+
+pub nothing_of : (up : Bool) → no_datagram ≡ (if up then no_datagram else no_datagram)
 nothing_of true = refl
 nothing_of false = refl
 

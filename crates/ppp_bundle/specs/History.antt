@@ -211,8 +211,8 @@ sends_by terms _ past = []
 
 -- a plain bundle sends each as it is, on its one member
 abbrev pub whole_by : Option MemberView → List Inner → List Sending
-whole_by m [] = []
-whole_by None (i ∷ packets) = []
+whole_by None packets = []
+whole_by (Some m) [] = []
 whole_by (Some m) (i ∷ packets) = sending m.link i.protocol i.information ∷ whole_by (Some m) packets
 
 abbrev pub whole_in : Terms → List Moment → List Sending
