@@ -15,3 +15,4 @@ pub mod StepMoments
 pub mod PassMoments
 pub mod BringMoments
 pub mod LeaveMoments
+pub mod GoesFacts
