@@ -5,8 +5,10 @@ use Rattle.ppp_base.specs.declared.allow.Allow.{Allow}
 use Rattle.ppp_base.specs.declared.hook_target.HookTarget.TheVariants.{Unit as OfUnit}
 use Rattle.ppp_base.specs.declared.stepped.Stepped.{Stepped}
 use Rattle.ppp_base.specs.declared.stepped.Stepped.TheVariants.{Taken, Stale}
-use Rattle.ppp_base.specs.Stepped.{OnTaken}
+use Rattle.ppp_base.specs.Stepped.{IfStale, OnTaken}
 use Rattle.ppp_base.specs.Mrru.{MrruPair}
+use Rattle.ppp_ipcp.specs.declared.wish.IpWish.{IpWish}
+use Rattle.ppp_ipcp.specs.Session.{StandsFor as IpcpStandsFor, session_after}
 use Rattle.ppp_mp.specs.StandsFor.{GatherNow}
 use Rattle.ppp_mp.specs.declared.members.MemberView.{MemberView}
 use Rattle.ppp_secrets.specs.declared.secrets.SecretsPair.{SecretsPair}
@@ -15,11 +17,12 @@ use Rattle.ppp_bundle.specs.declared.event.BundleEvent.TheVariants.{Make, In, Ou
 use Rattle.ppp_bundle.specs.declared.live.Live.{Live}
 use Rattle.ppp_bundle.specs.declared.member.Member.{Member}
 use Rattle.ppp_bundle.specs.declared.outbox.BundleEnd.{BundleEnd}
-use Rattle.ppp_bundle.specs.declared.wish.UnitWish.{UnitWish}
-use Rattle.ppp_bundle.specs.Closing.{crowded_end, looked}
+use Rattle.ppp_bundle.specs.declared.outbox.Ending.{Ending}
+use Rattle.ppp_bundle.specs.Sound.{IsSound}
+use Rattle.ppp_bundle.specs.Closing.{closed_if, closed_of, crowded_end, looked}
 use Rattle.ppp_bundle.specs.Gathers.{Gathered}
 use Rattle.ppp_bundle.specs.History.{Moment, Terms, entered_in, given_in, whole_in}
-use Rattle.ppp_bundle.specs.Lives.{GoesOn, HasBegun, HasHistory, Lives, LivesOrEnds, SendsSince, own_of}
+use Rattle.ppp_bundle.specs.Lives.{CutsAll, GathersAll, GoesOn, GoesOnAll, HasBegun, HasHistory, HasMember, IsUnit, Lives, LivesOrEnds, SendsSince, own_of, terms_of}
 use Rattle.ppp_bundle.specs.Member.{stay_of, views_of, without}
 use Rattle.ppp_bundle.specs.Replay.{since_made}
 use Rattle.ppp_bundle.specs.State.{UnitState, members_of}
@@ -101,5 +104,151 @@ goes_on {S = S} terms past secrets event u l live target lives sent given may pl
 
 -- A BUNDLE IS MADE
 
-made_terms : ℕ → UnitWish → Option MrruPair → Allow → Terms
-made_terms time wish mrru allow = record { wish = wish; allow = allow; mrru = mrru; made_at = time }
+new_stands : (wish : IpWish) → IpcpStandsFor wish (session_after wish []) []
+new_stands wish = record { negotiates = record { state = refl; acked = record { last = λ e. refl }; lawful = tt }; session = refl }
+
+gathers_new : (m : Option MrruPair) (gather : GatherNow) → m ≡ None → GathersAll m gather []
+gathers_new None gather e = refl
+gathers_new (Some mrru) gather e = absurd (let f : Some mrru ≡ None = e in cc)
+
+cuts_new : (terms : Terms) (m : Option MrruPair) → m ≡ None → CutsAll terms m (record { number = 0; turn = 0 }) []
+cuts_new terms None e = refl
+cuts_new terms (Some mrru) e = absurd (let f : Some mrru ≡ None = e in cc)
+
+some_new : (m : Option MrruPair) → m ≡ None → HasMember m [] []
+some_new None e = refl
+some_new (Some mrru) e = absurd (let f : Some mrru ≡ None = e in cc)
+
+pub has_begun : {S : Type 0} (secrets : SecretsPair) (event : BundleEvent S) (u : UnitState S) → IsPlainEvent event → u.scripts.machine.target ≡ OfUnit u.unit
+    → HasBegun event u (plain_step secrets event u)
+has_begun {S = S} secrets (Make number maker wish mrru allow) u plain target =
+    let terms : Terms = record { wish = wish; allow = allow; mrru = mrru; made_at = u.time } in
+    let v : UnitState S = after_event secrets (Make number maker wish mrru allow) [] (record u { ended = None }) in
+    step_ends terms [] v plain
+    (inl (record {
+      l = new_live number (length u.scripts.log.past) wish mrru allow;
+      live = refl;
+      reached = record {
+        order = tt;
+        ipcp = new_stands wish.ip;
+        gathers = gathers_new mrru u.gather plain;
+        cuts = cuts_new terms mrru plain;
+        members = λ x. refl;
+        some = some_new mrru plain;
+        initial = λ e. refl;
+        time_is = refl;
+        wish = refl;
+        allow = refl;
+        mrru = refl;
+        was_open = refl;
+        by_peer = refl;
+        opened_at = refl;
+        passed_at = refl;
+      };
+      asked_is = refl;
+      going = refl;
+      ended = refl;
+      target = target;
+    }))
+    (record { idle = refl; connect = refl })
+has_begun secrets (In link stay mru) u plain target = tt
+has_begun secrets (Out link stay) u plain target = tt
+has_begun secrets (Frame link protocol information) u plain target = tt
+has_begun secrets (Datagram datagram) u plain target = tt
+has_begun secrets (Tick now) u plain target = tt
+has_begun secrets (HookOver done) u plain target = tt
+
+-- WITHOUT A BUNDLE
+
+none_if : {S : Type 0} (found : Option Ending) (u : UnitState S) → u.live ≡ None → (closed_if found u).live ≡ None
+none_if None u e = e
+none_if (Some end) u e = ap (λ (o : Option Live). (closed_of o end u).live) e ∙ e
+
+-- Where no bundle lives, none lives after any event but Make.
+none_after : {S : Type 0} (secrets : SecretsPair) (event : BundleEvent S) (u : UnitState S) → MayCome event (record u { live = None })
+    → (terms_of event u ≡ None) → (after_event secrets event [] (record u { live = None })).live ≡ None
+none_after secrets (Make number maker wish mrru allow) u may e = absurd (let f : Some (record { wish = wish; allow = allow; mrru = mrru; made_at = u.time }) ≡ None = e in cc)
+none_after secrets (In link stay mru) u may e = absurd may
+none_after secrets (Out link stay) u may e = refl
+none_after secrets (Frame link protocol information) u may e = refl
+none_after secrets (Datagram datagram) u may e = refl
+none_after secrets (Tick now) u may e = refl
+none_after secrets (HookOver done) u may e = refl
+
+-- HISTORIES FROM STEP TO STEP
+
+history_of : {S : Type 0} (terms : Terms) (past : List Moment) (u : UnitState S) (o : Option Live) (e : Option BundleEnd) → LivesOrEnds terms past u o e
+    → IfSome o (HasHistory (since_made u.scripts.log.past) u.time u.gather)
+history_of terms past u (Some l) None lives = record { terms = terms; past = past; lives = lives }
+history_of terms past u (Some l) (Some e) lives = absurd lives
+history_of terms past u None e lives = tt
+
+by_none : {T : Type 0} (o : Option T) (P : T → Type 0) → o ≡ None → IfSome o P
+by_none None P e = tt
+by_none (Some x) P e = absurd (let f : Some x ≡ None = e in cc)
+
+at_some : {T : Type 0} (o : Option T) (x : T) (P : T → Type 0) → o ≡ Some x → IfSome o P → P x
+at_some {T = T} o x P e h = subst (λ (y : Option T). IfSome y P) e h
+
+without_bundle : {S : Type 0} (secrets : SecretsPair) (event : BundleEvent S) (u : UnitState S) (begins : Option Terms) → terms_of event u ≡ begins → u.live ≡ None → IsPlainEvent event → MayCome event u
+    → u.scripts.machine.target ≡ OfUnit u.unit → let v = plain_step secrets event u in IfSome v.live (HasHistory (since_made v.scripts.log.past) v.time v.gather)
+without_bundle {S = S} secrets event u (Some terms) e live plain may target =
+    let v : UnitState S = plain_step secrets event u in
+    history_of terms [] v v.live v.ended (at_some (terms_of event u) terms (λ t. LivesOrEnds t [] v v.live v.ended) e (has_begun secrets event u plain target))
+without_bundle {S = S} secrets event u None e live plain may target =
+    let same : record u { live = None } ≡ u = ap (λ (o : Option Live). record u { live = o }) (sym live) in
+    let w : UnitState S = record u { ended = None } in
+    let none : (after_event secrets event [] (record w { live = None })).live ≡ None =
+    none_after secrets event w (may_same event (record u { live = None }) (subst (λ (x : UnitState S). MayCome event x) (sym same) may)) (terms_same event u e) in
+    let after : (after_event secrets event [] w).live ≡ None = subst (λ (x : UnitState S). (after_event secrets event [] (record x { ended = None })).live ≡ None) same none in
+    by_none (plain_step secrets event u).live _ (none_if (crowded_end (after_event secrets event [] w).scripts.log.past) (after_event secrets event [] w) after)
+  where
+    terms_same : (event : BundleEvent S) (u : UnitState S) → terms_of event u ≡ None → terms_of event (record u { ended = None }) ≡ None
+    terms_same (Make number maker wish mrru allow) u e = e
+    terms_same (In link stay mru) u e = e
+    terms_same (Out link stay) u e = e
+    terms_same (Frame link protocol information) u e = e
+    terms_same (Datagram datagram) u e = e
+    terms_same (Tick now) u e = e
+    terms_same (HookOver done) u e = e
+
+with_bundle : {S : Type 0} (secrets : SecretsPair) (event : BundleEvent S) (u : UnitState S) (l : Live) → u.live ≡ Some l → IsUnit u → MayCome event u → u.sent ≡ [] → u.given ≡ []
+    → let v = plain_step secrets event u in IfSome v.live (HasHistory (since_made v.scripts.log.past) v.time v.gather)
+with_bundle {S = S} secrets event u l live unit may sent given =
+    let v : UnitState S = plain_step secrets event u in
+    let h = at_some u.live l (HasHistory (since_made u.scripts.log.past) u.time u.gather) live unit.history in
+    let plain : h.terms.mrru ≡ None = sym h.lives.reached.mrru ∙ at_some u.live l (λ x. x.mrru ≡ None) live unit.sound.agrees.plain in
+    let g = goes_on h.terms h.past secrets event u l live unit.sound.agrees.target h.lives sent given may plain in
+    history_of h.terms (g.since ++ h.past) v v.live v.ended g.goes
+
+history_step : {S : Type 0} (secrets : SecretsPair) (event : BundleEvent S) (u : UnitState S) (o : Option Live) → u.live ≡ o → IsUnit u → IsPlainEvent event → MayCome event u → u.sent ≡ [] → u.given ≡ []
+    → let v = plain_step secrets event u in IfSome v.live (HasHistory (since_made v.scripts.log.past) v.time v.gather)
+history_step secrets event u None live unit plain may sent given = without_bundle secrets event u (terms_of event u) refl live plain may unit.sound.agrees.target
+history_step secrets event u (Some l) live unit plain may sent given = with_bundle secrets event u l live unit may sent given
+
+pub unit_after : {S : Type 0} (result : Stepped (BundleEvent S)) (secrets : SecretsPair) (event : BundleEvent S) (old new : UnitState S) → IsUnit old → IsSound new → IsPlainEvent event → MayCome event old
+    → old.sent ≡ [] → old.given ≡ [] → OnTaken result (new ≡ after_step secrets event (record { gather = old.gather; packets = [] }) old) → IfStale result (λ back. (back ≡ event) × (new ≡ old)) → IsUnit new
+unit_after {S = S} Taken secrets event old new unit sound plain may sent given is stale =
+    record {
+      sound = sound;
+      history = subst (λ (v : UnitState S). IfSome v.live (HasHistory (since_made v.scripts.log.past) v.time v.gather)) (sym is) (history_step secrets event old old.live refl unit plain may sent given);
+    }
+unit_after {S = S} (Stale back) secrets event old new unit sound plain may sent given is stale = subst (λ (v : UnitState S). IsUnit v) (sym stale.1) unit
+
+goes_all : {S : Type 0} (secrets : SecretsPair) (event : BundleEvent S) (u : UnitState S) (o : Option Live) → u.live ≡ o → IsUnit u → MayCome event u → u.sent ≡ [] → u.given ≡ []
+    → (terms : Terms) (past : List Moment) → IfSome o (λ l. Lives terms (since_made u.scripts.log.past) u.time u.gather l past → GoesOn terms past secrets event u (plain_step secrets event u))
+goes_all secrets event u None live unit may sent given terms past = tt
+goes_all secrets event u (Some l) live unit may sent given terms past lives =
+    goes_on terms past secrets event u l live unit.sound.agrees.target lives sent given may (sym lives.reached.mrru ∙ at_some u.live l (λ x. x.mrru ≡ None) live unit.sound.agrees.plain)
+
+pub goes_after : {S : Type 0} (result : Stepped (BundleEvent S)) (secrets : SecretsPair) (event : BundleEvent S) (old new : UnitState S) → IsUnit old → MayCome event old → old.sent ≡ [] → old.given ≡ []
+    → OnTaken result (new ≡ after_step secrets event (record { gather = old.gather; packets = [] }) old) → OnTaken result (GoesOnAll secrets event old new)
+goes_after {S = S} Taken secrets event old new unit may sent given is =
+    subst (λ (v : UnitState S). GoesOnAll secrets event old v) (sym is) (goes_all secrets event old old.live refl unit may sent given)
+goes_after (Stale back) secrets event old new unit may sent given is = tt
+
+pub begun_after : {S : Type 0} (result : Stepped (BundleEvent S)) (secrets : SecretsPair) (event : BundleEvent S) (old new : UnitState S) → IsUnit old → IsPlainEvent event
+    → OnTaken result (new ≡ after_step secrets event (record { gather = old.gather; packets = [] }) old) → OnTaken result (HasBegun event old new)
+begun_after {S = S} Taken secrets event old new unit plain is =
+    subst (λ (v : UnitState S). HasBegun event old v) (sym is) (has_begun secrets event old plain unit.sound.agrees.target)
+begun_after (Stale back) secrets event old new unit plain is = tt

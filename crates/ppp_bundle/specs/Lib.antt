@@ -18,7 +18,7 @@ pub mod Fits
 pub mod Frames
 pub mod Gathers
 pub mod UnitPart
+pub mod Sound
 pub mod History
 pub mod Lives
-pub mod Sound
 pub mod Rows

@@ -22,6 +22,7 @@ use Rattle.ppp_bundle.specs.declared.outbox.BundleEnd.{BundleEnd}
 use Rattle.ppp_bundle.specs.History.{Moment, Enters, Goes, Brings, Gathered, Carries, Passes, Calls, Terms, HasReason, InOrder, asked_in, by_peer_after, calls_in, counts_in, cuts_in, entered_in, entries_in, gathered_in, given_in, is_member_in, mru_in, opened_in, passed_in, time_in, was_up_after, whole_in}
 use Rattle.ppp_bundle.specs.Member.{is_link, views_of}
 use Rattle.ppp_bundle.specs.Replay.{since_made}
+use Rattle.ppp_bundle.specs.Sound.{IsSound}
 use Rattle.ppp_bundle.specs.State.{UnitState}
 use Rattle.ppp_bundle.specs.UnitPart.{timed}
 
@@ -151,8 +152,18 @@ terms_of _ u = None
 abbrev pub HasBegun : {S : Type 0} → BundleEvent S → (old new : UnitState S) → Type 0
 HasBegun event old new = IfSome (terms_of event old) (λ terms. LivesOrEnds terms [] new new.live new.ended)
 
+-- Whatever history a bundle had that lives, it goes on with it.
+abbrev pub GoesOnAll : {S : Type 0} → SecretsPair → BundleEvent S → (old new : UnitState S) → Type 0
+GoesOnAll secrets event old new = (terms : Terms) (past : List Moment)
+    → IfSome old.live (λ l. Lives terms (since_made old.scripts.log.past) old.time old.gather l past → GoesOn terms past secrets event old new)
+
 -- A bundle that lives has a history.
-pub record HasHistory {S : Type 0} (u : UnitState S) (l : Live) : Type 0 where
+pub record HasHistory (marks time : ℕ) (gather : GatherNow) (l : Live) : Type 0 where
   pub terms : Terms
   pub past : List Moment
-  pub lives : Lives terms (since_made u.scripts.log.past) u.time u.gather l past
+  pub lives : Lives terms marks time gather l past
+
+-- What stays so of a unit from step to step, beside what it answers.
+pub record IsUnit {S : Type 0} (u : UnitState S) : Type 0 where
+  pub sound : IsSound u
+  pub history : IfSome u.live (HasHistory (since_made u.scripts.log.past) u.time u.gather)

@@ -8,7 +8,8 @@ ghost use Rattle.ppp_hooks.specs.HookWords.{words_of_start};
 ghost use Rattle.ppp_mark.specs.Log.{no_marks};
 ghost use Rattle.ppp_mark.specs.Scripts.{LogLaw, LogSettled, said_in};
 ghost use Rattle.ppp_bundle.specs.Gathers.{Gathered};
-ghost use Rattle.ppp_bundle.specs.Replay.{Replay};
+ghost use Rattle.ppp_bundle.specs.Lives.{GoesOnAll, HasBegun, HasHistory};
+ghost use Rattle.ppp_bundle.specs.Replay.{Replay, since_made};
 ghost use Rattle.ppp_bundle.specs.Sound.{IsGoing, IsSound};
 ghost use Rattle.ppp_bundle.specs.State.{is_open};
 ghost use Rattle.ppp_bundle.specs.UnitPart.{EventCounts, IsFresh, IsPlainEvent, MayCome, UnitPart, after_event, after_step};
@@ -32,15 +33,14 @@ pub struct Bundle<S: Spawner> {
 }
 
 impl<S: Spawner> Model for Bundle<S> {
-    ghost use Rattle.ppp_bundle.specs.Replay.{Replay};
-    ghost use Rattle.ppp_bundle.specs.Sound.{IsSound};
+    ghost use Rattle.ppp_bundle.specs.Lives.{IsUnit};
     ghost use Rattle.ppp_bundle.specs.State.{UnitState};
 
     ghost Value = { UnitState S };
 
     ghost view = { λ b. b.core };
 
-    ghost invariant = { λ b. IsSound b.core };
+    ghost invariant = { λ b. IsUnit b.core };
 }
 
 impl<S: Spawner> UnitCore<S> {
@@ -151,7 +151,7 @@ impl<S: Spawner> Bundle<S> {
 
     /// One event. A script's end that isn't the running job's is stale: it comes back, and nothing changes. So far no
     /// multilink bundle may be made. It takes no memory.
-    #[tactic(auto, using(crate::proofs::PlainFacts::plain_part))]
+    #[tactic(auto, using(crate::proofs::PlainFacts::plain_part, crate::proofs::GoesFacts::unit_after, crate::proofs::GoesFacts::goes_after, crate::proofs::GoesFacts::begun_after))]
     pub fn step(&mut self, event: BundleEvent<S>, secrets: &SecretsPair) -> Stepped<BundleEvent<S>>
         requires may { MayCome event self.old }
         requires plain { IsPlainEvent event }
@@ -159,6 +159,8 @@ impl<S: Spawner> Bundle<S> {
         requires given { self.old.given ≡ [] }
         ensures taken { IsTaken result ↔ IsFresh event self.old }
         ensures part { OnTaken result (UnitPart secrets.now event self.old self.new) }
+        ensures begun { OnTaken result (HasBegun event self.old self.new) }
+        ensures goes { OnTaken result (GoesOnAll secrets.now event self.old self.new) }
         ensures counts { (t f : ℕ) → EventCounts S.tries S.faults t f event self.old → OnTaken result (MachineCounts S.tries S.faults t f self.new.scripts.machine) }
         ensures stale { IfStale result (λ back. (back ≡ event) × (self.new ≡ self.old)) }
     {
@@ -211,6 +213,7 @@ impl<S: Spawner> Bundle<S> {
         ensures law { LogLaw 0 self.now.scripts.log.past }
         ensures settled { LogSettled self.now.scripts.log.past (is_open self.now.live) }
         ensures replay { Replay self.now self.now.scripts.log.past }
+        ensures history { IfSome self.now.live (HasHistory (since_made self.now.scripts.log.past) self.now.time self.now.gather) }
         ensures room { IfSome self.now.live (λ l. l.made_at + 1024 ≤ self.now.scripts.log.limit) }
     {
         self.core.scripts.log()
