@@ -1,24 +1,15 @@
 -- What a call of IPCP adds to what has happened to a plain bundle.
-use Rattle.std.proofs.Common.{◌≡◌, ◌⊎◌, inl, inr, ℕ, Bool, true, false, cond, Option, None, Some, List, [], ◌∷◌, ◌++◌, refl, ap, sym, subst, ◌∙◌, append_assoc, append-nil}
+use Rattle.std.proofs.Common.{◌≡◌, ℕ, Bool, true, false, Option, None, Some, List, [], ◌∷◌, ◌++◌, refl, ap, sym, ◌∙◌, append_assoc, append-nil}
 use Rattle.std.specs.Prelude.{◌==◌, ◌&&◌, ◌||◌, not, if◌then◌else◌, option_to_list}
-use Rattle.std.specs.List.{list_any}
 use Rattle.ppp_base.specs.Mrru.{MrruPair}
-use Rattle.ppp_base.specs.declared.hook_target.HookTarget.{HookTarget}
-use Rattle.ppp_base.specs.declared.hook_target.HookTarget.TheVariants.{Link, Unit as OfUnit}
 use Rattle.ppp_base.specs.declared.protocol.TheConstants.{IPCP}
 use Rattle.ppp_control.specs.declared.negotiation.StepOut.{StepOut}
 use Rattle.ppp_control.specs.Rules.{Call}
-use Rattle.ppp_hooks.specs.HookPast.{last_in, open_in}
-use Rattle.ppp_hooks.specs.HookRule.{due_for, start_marks}
 use Rattle.ppp_ipcp.specs.declared.ipcp.Ipcp.{Ipcp}
 use Rattle.ppp_ipcp.specs.Around.{Around}
 use Rattle.ppp_ipcp.specs.Object.{agreed_in}
 use Rattle.ppp_ipcp.specs.Session.{IpcpCall, StandsFor as IpcpStandsFor, called as ip_called, session_after}
-use Rattle.ppp_mark.specs.declared.mark.Mark.{Mark}
-use Rattle.ppp_mark.specs.Log.{LogState}
-use Rattle.ppp_mark.specs.Marks.{close_mark, ip_closed_mark, out_mark, started_mark, unmade_mark}
-use Rattle.ppp_mark.specs.ScriptLog.{ScriptLogState, log_closed_at}
-use Rattle.ppp_mark.specs.Scripts.{marks_at, said_in}
+use Rattle.ppp_mark.specs.ScriptLog.{ScriptLogState}
 use Rattle.ppp_mp.specs.StandsFor.{GatherNow}
 use Rattle.ppp_mp.specs.Schedule.{SendingNow}
 use Rattle.ppp_mp.specs.declared.members.MemberView.{MemberView}
@@ -29,19 +20,14 @@ use Rattle.ppp_secrets.specs.declared.secrets.SecretsPair.{SecretsPair}
 use Rattle.ppp_bundle.specs.declared.live.IpCall.{IpCall}
 use Rattle.ppp_bundle.specs.declared.live.Live.{Live}
 use Rattle.ppp_bundle.specs.declared.member.Member.{Member}
-use Rattle.ppp_bundle.specs.declared.outbox.BundleEnd.{BundleEnd}
-use Rattle.ppp_bundle.specs.declared.outbox.Ending.{Ending}
 use Rattle.ppp_bundle.specs.declared.outbox.Sending.{Sending}
-use Rattle.ppp_bundle.specs.declared.outbox.UnitCounts.{UnitCounts}
 use Rattle.ppp_bundle.specs.declared.wish.UnitWish.{UnitWish}
-use Rattle.ppp_bundle.specs.Closing.{closed, closed_of, end_of, outs, unmade}
-use Rattle.ppp_bundle.specs.History.{Moment, Calls, Terms, HasReason, asked_in, by_peer_after, calls_in, comes_to_up, counts_in, entered_in, gathered_in, given_in, given_by, has_finished_after, is_up_after, is_up_in, packets_of, was_up_after, whole_by, whole_in}
-use Rattle.ppp_bundle.specs.IpCalls.{args_of, around_of, call_of, called, finish_of, finished, followed, has_finished, ip_left, is_rtr, live_left, live_tells, or_none, sends_all, turned}
-use Rattle.ppp_bundle.specs.Lives.{CutsAll, Ends, GathersAll, GathersThenDrops, HasMember, Reached, is_made_or_close}
+use Rattle.ppp_bundle.specs.History.{Moment, Calls, Terms, asked_in, by_peer_after, calls_in, entered_in, is_up_after, is_up_in, packets_of, was_up_after, whole_by}
+use Rattle.ppp_bundle.specs.IpCalls.{args_of, around_of, call_of, finished, followed, has_finished, ip_left, is_rtr, live_left, live_tells, or_none, sends_all, turned}
+use Rattle.ppp_bundle.specs.Lives.{CutsAll, GathersAll, HasMember, Reached}
 use Rattle.ppp_bundle.specs.Member.{views_of}
-use Rattle.ppp_bundle.specs.Replay.{since_made}
-use Rattle.ppp_bundle.specs.ScriptParts.{marked, opened, shut}
-use Rattle.ppp_bundle.specs.Sends.{left_by_sending, sending, sends, sent_as, whole_on}
+use Rattle.ppp_bundle.specs.ScriptParts.{opened, shut}
+use Rattle.ppp_bundle.specs.Sends.{left_by_sending, sending, sent_as, whole_on}
 use Rattle.ppp_bundle.specs.State.{UnitState, is_up}
 use Rattle.ppp_bundle.proofs.SessionFacts.{exact}
 

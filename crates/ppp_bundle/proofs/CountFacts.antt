@@ -1,5 +1,5 @@
 -- Where no script ended, a spawner in its machine has the counts that it had.
-use Rattle.std.proofs.Common.{◌≡◌, ℕ, Option, None, Some, subst}
+use Rattle.std.proofs.Common.{◌≡◌, ℕ, Option, subst}
 use Rattle.std.specs.Prelude.{IfSome}
 use Rattle.ppp_hooks.specs.HookCounts.{CountsFrom, MachineCounts}
 use Rattle.ppp_hooks.specs.HookState.{HookState}

@@ -1,31 +1,29 @@
 -- What each event adds to what has happened to a plain bundle.
-use Rattle.std.proofs.Common.{◌≡◌, ◌⊎◌, inl, inr, ℕ, zero, suc, ◌*◌, ◌-◌, ◌<◌, ◌≤◌, Bool, true, false, cond, Option, None, Some, is_some, List, [], ◌∷◌, ◌++◌, length, refl, ap, ap₂, sym, subst, subst₂, ◌∙◌, append_assoc, append-nil, arith}
+use Rattle.std.proofs.Common.{◌≡◌, ◌⊎◌, inl, inr, ℕ, ◌-◌, Bool, true, false, Option, None, Some, List, [], ◌∷◌, ◌++◌, refl, ap, sym, subst, subst₂, ◌∙◌, arith}
 use Rattle.std.proofs.lemmas.Bool.Decides.{nat_tests}
-use Rattle.std.specs.Prelude.{◌==◌, ◌&&◌, ◌||◌, min, nat_le, not, if◌then◌else◌, option_to_list}
-use Rattle.ppp_base.specs.Mrru.{MrruPair}
+use Rattle.std.specs.Prelude.{min, nat_le, if◌then◌else◌}
 use Rattle.ppp_base.specs.declared.hook_target.HookTarget.TheVariants.{Unit as OfUnit}
 use Rattle.ppp_base.specs.declared.posts.CloseCause.{CloseCause}
 use Rattle.ppp_base.specs.declared.posts.CloseCause.TheVariants.{Idle, ConnectTime, IpcpFailed, EndedByPeer, TooManyChanges}
 use Rattle.ppp_control.specs.Rules.{Call}
-use Rattle.ppp_ipcp.specs.Around.{Around, around}
-use Rattle.ppp_ipcp.specs.Session.{IpcpCall, session_after}
+use Rattle.ppp_ipcp.specs.Around.{Around}
+use Rattle.ppp_ipcp.specs.Session.{session_after}
 use Rattle.ppp_secrets.specs.declared.secrets.SecretsPair.{SecretsPair}
 use Rattle.ppp_bundle.specs.declared.live.IpCall.{IpCall}
 use Rattle.ppp_bundle.specs.declared.live.Live.{Live}
-use Rattle.ppp_bundle.specs.declared.member.Member.{Member}
 use Rattle.ppp_bundle.specs.declared.outbox.BundleEnd.{BundleEnd}
 use Rattle.ppp_bundle.specs.declared.outbox.Ending.{Ending}
 use Rattle.ppp_bundle.specs.declared.outbox.UnitCounts.{UnitCounts}
 use Rattle.ppp_bundle.specs.declared.wish.UnitWish.{UnitWish}
 use Rattle.ppp_bundle.specs.Closing.{closed, closed_if, closed_of, connect_end, crowded_end, ending, idle_end, looked, most_elapsed}
-use Rattle.ppp_bundle.specs.History.{Moment, Calls, Terms, HasReason, IsOver, asked_in, by_peer_after, calls_in, counts_in, entered_in, given_in, has_finished_after, is_up_in, opened_in, passed_in, time_in, whole_in}
+use Rattle.ppp_bundle.specs.History.{Moment, Calls, Terms, HasReason, by_peer_after, calls_in, entered_in, has_finished_after, is_up_in, opened_in, passed_in}
 use Rattle.ppp_bundle.specs.IpCalls.{around_of, call_of, called, has_finished, ip_left, live_tells}
-use Rattle.ppp_bundle.specs.Lives.{Ends, HasMember, Lives, LivesOrEnds, Reached, own_in}
+use Rattle.ppp_bundle.specs.Lives.{Lives, LivesOrEnds, Reached}
 use Rattle.ppp_bundle.specs.Replay.{since_made}
 use Rattle.ppp_bundle.specs.State.{UnitState, is_up}
 use Rattle.ppp_bundle.proofs.CallMoments.{call_made, up_is}
 use Rattle.ppp_bundle.proofs.CloseMoments.{Over, closed_over}
-use Rattle.ppp_bundle.proofs.MidMoments.{Calm, Flows, IsPast, Keeps, Mid, call_calm, call_flows, call_mid, is_past, keeps_closed, limit_end, limit_reason, not_past}
+use Rattle.ppp_bundle.proofs.MidMoments.{Calm, Flows, Keeps, Mid, call_calm, call_flows, call_mid, is_past, keeps_closed, limit_end, limit_reason, not_past}
 
 -- THE END OF A STEP
 

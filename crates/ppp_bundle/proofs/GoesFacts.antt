@@ -1,7 +1,6 @@
 -- A plain bundle goes on with its history by each step, and begins with none.
-use Rattle.std.proofs.Common.{◌≡◌, ◌⊎◌, inl, inr, ℕ, ◌+◌, ◌≤◌, Bool, true, false, cond, Option, None, Some, List, [], ◌∷◌, ◌++◌, length, refl, ap, sym, subst, ◌∙◌, arith}
+use Rattle.std.proofs.Common.{◌≡◌, inl, ◌≤◌, Option, None, Some, List, [], ◌∷◌, ◌++◌, length, refl, ap, sym, subst, ◌∙◌, arith}
 use Rattle.std.specs.Prelude.{IfSome, option_to_list}
-use Rattle.ppp_base.specs.declared.allow.Allow.{Allow}
 use Rattle.ppp_base.specs.declared.hook_target.HookTarget.TheVariants.{Unit as OfUnit}
 use Rattle.ppp_base.specs.declared.stepped.Stepped.{Stepped}
 use Rattle.ppp_base.specs.declared.stepped.Stepped.TheVariants.{Taken, Stale}
@@ -20,17 +19,16 @@ use Rattle.ppp_bundle.specs.declared.outbox.BundleEnd.{BundleEnd}
 use Rattle.ppp_bundle.specs.declared.outbox.Ending.{Ending}
 use Rattle.ppp_bundle.specs.Sound.{IsSound}
 use Rattle.ppp_bundle.specs.Closing.{closed_if, closed_of, crowded_end, looked}
-use Rattle.ppp_bundle.specs.Gathers.{Gathered}
-use Rattle.ppp_bundle.specs.History.{Moment, Terms, entered_in, given_in, whole_in}
+use Rattle.ppp_bundle.specs.History.{Moment, Terms, entered_in, whole_in}
 use Rattle.ppp_bundle.specs.Lives.{CutsAll, GathersAll, GoesOn, GoesOnAll, HasBegun, HasHistory, HasMember, IsUnit, Lives, LivesOrEnds, SendsSince, own_of, terms_of}
-use Rattle.ppp_bundle.specs.Member.{stay_of, views_of, without}
+use Rattle.ppp_bundle.specs.Member.{stay_of, views_of}
 use Rattle.ppp_bundle.specs.Replay.{since_made}
 use Rattle.ppp_bundle.specs.State.{UnitState, members_of}
-use Rattle.ppp_bundle.specs.UnitPart.{IsPlainEvent, MayCome, MayEnter, after_event, after_step, made, new_live}
+use Rattle.ppp_bundle.specs.UnitPart.{IsPlainEvent, MayCome, MayEnter, after_event, after_step, new_live}
 use Rattle.ppp_bundle.proofs.BringMoments.{does_frame}
 use Rattle.ppp_bundle.proofs.EventMoments.{begins_calm, begins_mid, flows_keep, keeps_if, step_ends}
 use Rattle.ppp_bundle.proofs.LeaveMoments.{does_leave}
-use Rattle.ppp_bundle.proofs.MidMoments.{Calm, Flows, Mid, has_plain}
+use Rattle.ppp_bundle.proofs.MidMoments.{Calm, Mid, has_plain}
 use Rattle.ppp_bundle.proofs.PassMoments.{does_carry}
 use Rattle.ppp_bundle.proofs.PlainFacts.{alone}
 use Rattle.ppp_bundle.proofs.StepMoments.{Does, does_enter, does_over, does_tick}
@@ -238,7 +236,7 @@ unit_after {S = S} (Stale back) secrets event old new unit sound plain may sent 
 goes_all : {S : Type 0} (secrets : SecretsPair) (event : BundleEvent S) (u : UnitState S) (o : Option Live) → u.live ≡ o → IsUnit u → MayCome event u → u.sent ≡ [] → u.given ≡ []
     → (terms : Terms) (past : List Moment) → IfSome o (λ l. Lives terms (since_made u.scripts.log.past) u.time u.gather l past → GoesOn terms past secrets event u (plain_step secrets event u))
 goes_all secrets event u None live unit may sent given terms past = tt
-goes_all secrets event u (Some l) live unit may sent given terms past lives =
+goes_all secrets event u (Some l) live unit may sent given terms past = λ lives.
     goes_on terms past secrets event u l live unit.sound.agrees.target lives sent given may (sym lives.reached.mrru ∙ at_some u.live l (λ x. x.mrru ≡ None) live unit.sound.agrees.plain)
 
 pub goes_after : {S : Type 0} (result : Stepped (BundleEvent S)) (secrets : SecretsPair) (event : BundleEvent S) (old new : UnitState S) → IsUnit old → MayCome event old → old.sent ≡ [] → old.given ≡ []

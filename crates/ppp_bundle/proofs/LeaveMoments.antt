@@ -1,5 +1,5 @@
 -- A step of a plain bundle at which its one member goes out.
-use Rattle.std.proofs.Common.{◌≡◌, ◌⊎◌, inl, inr, ℕ, Bool, true, false, cond, Option, None, Some, is_some, List, [], ◌∷◌, ◌++◌, refl, ap, sym, subst, ◌∙◌, arith}
+use Rattle.std.proofs.Common.{◌≡◌, inr, ℕ, Bool, true, false, Option, None, Some, is_some, List, [], ◌∷◌, refl, ap, sym, subst, ◌∙◌, arith}
 use Rattle.std.proofs.lemmas.Bool.Decides.{nat_tests}
 use Rattle.std.specs.Prelude.{◌==◌, if◌then◌else◌, option_to_list}
 use Rattle.ppp_mp.specs.declared.members.MemberView.{MemberView}
@@ -8,12 +8,12 @@ use Rattle.ppp_bundle.specs.declared.live.Live.{Live}
 use Rattle.ppp_bundle.specs.declared.member.Member.{Member}
 use Rattle.ppp_bundle.specs.declared.outbox.BundleEnd.{BundleEnd}
 use Rattle.ppp_bundle.specs.Closing.{unmade}
-use Rattle.ppp_bundle.specs.History.{Moment, Goes, Terms, entered_in, is_up_in, is_member_in, mru_in}
-use Rattle.ppp_bundle.specs.Lives.{Empties, LivesOrEnds, mru_of}
-use Rattle.ppp_bundle.specs.Member.{is_link, stay_of, views_of, without}
+use Rattle.ppp_bundle.specs.History.{Moment, Goes, Terms, entered_in, is_up_in, is_member_in}
+use Rattle.ppp_bundle.specs.Lives.{LivesOrEnds, mru_of}
+use Rattle.ppp_bundle.specs.Member.{stay_of, views_of, without}
 use Rattle.ppp_bundle.specs.State.{UnitState}
 use Rattle.ppp_bundle.specs.UnitPart.{left_by, left_of}
-use Rattle.ppp_bundle.proofs.MidMoments.{Calm, Mid, has_plain}
+use Rattle.ppp_bundle.proofs.MidMoments.{Mid, has_plain}
 use Rattle.ppp_bundle.proofs.StepMoments.{Does, flows_first, nothing_of, nothing_whole}
 
 same_link : (a b : ℕ) (stay stay' : ℕ) → (if a == b then Some stay' else None) ≡ Some stay → a ≡ b

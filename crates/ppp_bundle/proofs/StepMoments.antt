@@ -1,39 +1,36 @@
 -- A step of a plain bundle, by its event: what has happened goes on with it.
-use Rattle.std.proofs.Common.{◌≡◌, ◌⊎◌, inl, inr, ℕ, ◌≤◌, Bool, true, false, cond, Option, None, Some, is_some, List, [], ◌∷◌, ◌++◌, length, refl, ap, ap₂, sym, subst, subst₂, ◌∙◌, append-nil, arith}
-use Rattle.std.proofs.lemmas.Bool.Decides.{nat_tests}
-use Rattle.std.specs.Prelude.{◌==◌, ◌&&◌, ◌||◌, nat_le, not, if◌then◌else◌, option_to_list}
+use Rattle.std.proofs.Common.{◌≡◌, ◌⊎◌, inl, inr, ℕ, Bool, true, false, Option, None, Some, List, [], ◌∷◌, ◌++◌, refl, ap, sym, subst, ◌∙◌, append-nil}
+use Rattle.std.specs.Prelude.{◌==◌, if◌then◌else◌, option_to_list}
 use Rattle.ppp_base.specs.Mrru.{MrruPair}
-use Rattle.ppp_base.specs.declared.hook_target.HookTarget.TheVariants.{Unit as OfUnit}
-use Rattle.ppp_base.specs.declared.protocol.TheConstants.{IP, IPCP, MULTILINK}
-use Rattle.ppp_control.specs.Rules.{Call, by_itself, opens, comes_up, ticks}
+use Rattle.ppp_control.specs.Rules.{by_itself, opens, comes_up, ticks}
 use Rattle.ppp_fsm.specs.Fsm.{acts_of}
 use Rattle.ppp_hooks.specs.HookState.{DoneState}
 use Rattle.ppp_ipcp.specs.declared.ipcp.Ipcp.{Ipcp}
 use Rattle.ppp_ipcp.specs.declared.wish.IpWish.{IpWish}
-use Rattle.ppp_ipcp.specs.Around.{Around, around}
+use Rattle.ppp_ipcp.specs.Around.{Around}
 use Rattle.ppp_ipcp.specs.Session.{IpcpCall, session_after}
 use Rattle.ppp_mark.specs.Marks.{in_mark}
 use Rattle.ppp_mp.specs.StandsFor.{GatherNow}
 use Rattle.ppp_mp.specs.Schedule.{SendingNow}
 use Rattle.ppp_mp.specs.declared.members.MemberView.{MemberView}
 use Rattle.ppp_secrets.specs.declared.secrets.SecretsPair.{SecretsPair}
-use Rattle.ppp_bundle.specs.declared.live.IpCall.TheVariants.{Opens, ComesUp, Hears, Ticks}
+use Rattle.ppp_bundle.specs.declared.live.IpCall.TheVariants.{Opens, ComesUp, Ticks}
 use Rattle.ppp_bundle.specs.declared.live.Live.{Live}
 use Rattle.ppp_bundle.specs.declared.member.Member.{Member}
 use Rattle.ppp_bundle.specs.declared.outbox.Ending.{Ending}
 use Rattle.ppp_bundle.specs.declared.outbox.UnitCounts.{UnitCounts}
 use Rattle.ppp_bundle.specs.Closing.{closed, closed_if, connect_end, connected_long, idle_end, idled}
-use Rattle.ppp_bundle.specs.History.{Moment, Enters, Goes, Brings, Carries, Passes, Calls, Terms, asked_in, counted, counts_in, drops_by, entered_in, given_by, given_in, has_finished_after, calls_in, is_up_in, mru_in, passed_in, rest_of, sends_by, time_in, to_begin, whole_by, whole_in}
-use Rattle.ppp_bundle.specs.IpCalls.{called, has_finished, ip_left, ip_tells, live_tells, around_of}
+use Rattle.ppp_bundle.specs.History.{Moment, Enters, Passes, Calls, Terms, asked_in, counted, drops_by, entered_in, given_by, given_in, is_up_in, rest_of, sends_by, to_begin, whole_by, whole_in}
+use Rattle.ppp_bundle.specs.IpCalls.{called, has_finished, ip_left, ip_tells, around_of}
 use Rattle.ppp_bundle.specs.Lives.{CutsAll, GathersAll, HasMember, Reached, mru_of, own_in}
 use Rattle.ppp_bundle.specs.Member.{member, views_of, with_member}
-use Rattle.ppp_bundle.specs.ScriptParts.{marked, over}
-use Rattle.ppp_bundle.specs.State.{UnitState, is_up}
+use Rattle.ppp_bundle.specs.ScriptParts.{marked}
+use Rattle.ppp_bundle.specs.State.{UnitState}
 use Rattle.ppp_bundle.specs.UnitPart.{begun, entered, entered_of, script_over, ticked_unit, timed}
 use Rattle.ppp_bundle.proofs.CallMoments.{call_made}
 use Rattle.ppp_bundle.proofs.CloseMoments.{Over}
 use Rattle.ppp_bundle.proofs.EventMoments.{Dead, Did, call_on, calm_on, connect_over, dead_of, dead_stays, either_of, flows_keep, idle_over, keeps_if}
-use Rattle.ppp_bundle.proofs.MidMoments.{Calm, Flows, Mid, call_time, has_plain}
+use Rattle.ppp_bundle.proofs.MidMoments.{Calm, Flows, Mid, has_plain}
 
 -- What an event does, before the marks are counted.
 pub record Does {S : Type 0} (terms : Terms) (past own : List Moment) (counts : UnitCounts) (u : UnitState S) : Type 0 where

@@ -1,6 +1,6 @@
 -- What has happened to a bundle since it was made, by looking back over it, the newest first. Nothing here says in which order a unit does its work: only
 -- what its IPCP and its gatherer stand for, what IPCP is asked just before each of its calls, and what is sent, given and dropped.
-use Rattle.std.specs.Prelude.{ℕ, zero, suc, ◌*◌, ◌-◌, ◌<◌, ◌≤◌, ◌≡◌, ◌==◌, ◌&&◌, ◌||◌, ⊤, min, nat_le, nat_lt, not, Bool, true, false, if◌then◌else◌, Option, None, Some, is_some, List, [], ◌∷◌, ◌++◌, length, map}
+use Rattle.std.specs.Prelude.{ℕ, zero, suc, ◌*◌, ◌-◌, ◌<◌, ◌≤◌, ◌≡◌, ◌==◌, ◌&&◌, ◌||◌, ⊤, min, nat_le, nat_lt, not, Bool, true, false, if◌then◌else◌, Option, None, Some, is_some, List, [], ◌∷◌, ◌++◌, length}
 use Rattle.ppp_base.specs.declared.allow.Allow.{Allow}
 use Rattle.ppp_base.specs.declared.posts.CloseCause.{CloseCause}
 use Rattle.ppp_base.specs.declared.posts.CloseCause.TheVariants.{Idle, ConnectTime, IpcpFailed, EndedByPeer, TooManyChanges}

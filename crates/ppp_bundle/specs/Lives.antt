@@ -1,5 +1,5 @@
 -- How a unit stands for what has happened to its bundle, and how one event goes on with it.
-use Rattle.std.specs.Prelude.{ℕ, ◌+◌, ◌≡◌, ◌↔◌, ◌==◌, ◌||◌, ⊤, Bool, true, false, if◌then◌else◌, Option, None, Some, IfSome, option_to_list, List, [], ◌∷◌, ◌++◌}
+use Rattle.std.specs.Prelude.{ℕ, ◌≡◌, ◌↔◌, ◌==◌, ◌||◌, ⊤, Bool, false, if◌then◌else◌, Option, None, Some, IfSome, option_to_list, List, [], ◌∷◌, ◌++◌}
 use Rattle.std.specs.List.{list_any}
 use Rattle.ppp_base.specs.declared.posts.CloseCause.{CloseCause}
 use Rattle.ppp_base.specs.Mrru.{MrruPair}
