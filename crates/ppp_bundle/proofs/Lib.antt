@@ -16,3 +16,4 @@ pub mod PassMoments
 pub mod BringMoments
 pub mod LeaveMoments
 pub mod GoesFacts
+pub mod StandFacts

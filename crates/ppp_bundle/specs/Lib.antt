@@ -21,4 +21,5 @@ pub mod UnitPart
 pub mod Sound
 pub mod History
 pub mod Lives
+pub mod MayStand
 pub mod Rows
