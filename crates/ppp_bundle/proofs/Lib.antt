@@ -17,3 +17,4 @@ pub mod BringMoments
 pub mod LeaveMoments
 pub mod GoesFacts
 pub mod StandFacts
+pub mod StandMoments

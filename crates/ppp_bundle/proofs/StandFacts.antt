@@ -66,7 +66,7 @@ opens_stands number stays past time s = record {
   all = (record {
     made = not_kind IP_OPEN MADE refl;
     comes = not_kind IP_OPEN IN refl;
-    opens = λ e. (subst (λ (o : Option ℕ). IsSome o) (sym s.bundle) tt, s.closing_is, ap (λ (n : ℕ). n + 1) s.openings);
+    opens = λ e. (subst (λ (o : Option ℕ). IsSome o) (sym s.bundle) refl, s.closing_is, ap (λ (n : ℕ). n + 1) s.openings);
     closes = not_kind IP_OPEN CLOSE refl;
     goes = not_kind IP_OPEN OUT refl;
     unmade = not_kind IP_OPEN UNMADE refl;
@@ -80,7 +80,7 @@ opens_stands number stays past time s = record {
 addresses_stand : (number : Option ℕ) (stays : ℕ → Option ℕ) (closing : Bool) (past : List Mark) (time : ℕ) (args : HookArgs) → Stands number stays closing past
     → Stands number stays closing (remote_mark time args.remote ∷ local_mark time args.local ∷ past)
 addresses_stand number stays closing past time args s = record {
-  all = (quiet_mark (local_mark time args.local ∷ past) (remote_mark time args.remote) refl refl refl refl refl refl, quiet_mark past (local_mark time args.local) refl refl refl refl refl refl, s.all);
+  all = (quiet_mark (local_mark time args.local ∷ past) (remote_mark time args.remote) refl refl refl refl refl refl, (quiet_mark past (local_mark time args.local) refl refl refl refl refl refl, s.all));
   bundle = s.bundle;
   stays_are = s.stays_are;
   closing_is = s.closing_is;
@@ -123,7 +123,7 @@ close_stands number stays past time cause elapsed s = record {
     made = not_kind CLOSE MADE refl;
     comes = not_kind CLOSE IN refl;
     opens = not_kind CLOSE IP_OPEN refl;
-    closes = λ e. (subst (λ (o : Option ℕ). IsSome o) (sym s.bundle) tt, s.closing_is);
+    closes = λ e. (subst (λ (o : Option ℕ). IsSome o) (sym s.bundle) refl, s.closing_is);
     goes = not_kind CLOSE OUT refl;
     unmade = not_kind CLOSE UNMADE refl;
   }, s.all);
@@ -191,7 +191,7 @@ pub in_stands : (number : ℕ) (stays : ℕ → Option ℕ) (past : List Mark) (
 in_stands number stays past time link stay s e = record {
   all = (record {
     made = not_kind IN MADE refl;
-    comes = λ f. (subst (λ (o : Option ℕ). IsSome o) (sym s.bundle) tt, s.stays_are link ∙ e, s.closing_is);
+    comes = λ f. (subst (λ (o : Option ℕ). IsSome o) (sym s.bundle) refl, s.stays_are link ∙ e, s.closing_is);
     opens = not_kind IN IP_OPEN refl;
     closes = not_kind IN CLOSE refl;
     goes = not_kind IN OUT refl;
