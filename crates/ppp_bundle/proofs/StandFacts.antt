@@ -51,7 +51,7 @@ due_stands number stays closing past true None time s = s
 due_stands number stays closing past true (Some x) time s = started_stands number stays closing past time x.0 x.1 s
 due_stands number stays closing past false start time s = s
 
-ended_stands : (number : Option ℕ) (stays : ℕ → Option ℕ) (closing : Bool) (past : List Mark) (time : ℕ) (answer : ScriptEnd) (job : ℕ) → Stands number stays closing past
+pub ended_stands : (number : Option ℕ) (stays : ℕ → Option ℕ) (closing : Bool) (past : List Mark) (time : ℕ) (answer : ScriptEnd) (job : ℕ) → Stands number stays closing past
     → Stands number stays closing (ended_mark time answer job ∷ past)
 ended_stands number stays closing past time answer job s =
     record { all = (quiet_mark past (ended_mark time answer job) refl refl refl refl refl refl, s.all); bundle = s.bundle; stays_are = s.stays_are; closing_is = s.closing_is; openings = s.openings }
