@@ -56,7 +56,7 @@ does_event terms past secrets (Tick now) u plain m calm sent given may = does_ti
 does_event terms past secrets (HookOver done) u plain m calm sent given may = does_over terms past done u m calm sent given
 
 -- that no end is told from before changes neither what may come nor the event's own moment
-may_same : {S : Type 0} (event : BundleEvent S) (u : UnitState S) → MayCome event u → MayCome event (record u { ended = None })
+pub may_same : {S : Type 0} (event : BundleEvent S) (u : UnitState S) → MayCome event u → MayCome event (record u { ended = None })
 may_same (Make number maker wish mrru allow) u may = may
 may_same (In link stay mru) u may = may
 may_same (Out link stay) u may = may

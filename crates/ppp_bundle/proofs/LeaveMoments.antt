@@ -35,7 +35,7 @@ all_gone (m ∷ []) entered link stay x e f =
 all_gone (m ∷ n ∷ members) None link stay x e f = absurd (let g : record { link = m.link; mru = m.mru } ∷ views_of (n ∷ members) ≡ [] = e in cc)
 all_gone (m ∷ n ∷ members) (Some v) link stay x e f = absurd (let g : record { link = m.link; mru = m.mru } ∷ record { link = n.link; mru = n.mru } ∷ views_of members ≡ v ∷ [] = e in cc)
 
-left_is : {S : Type 0} (secrets : SecretsPair) (link stay : ℕ) (l : Live) (u : UnitState S) → u.live ≡ Some l → without link l.members ≡ []
+pub left_is : {S : Type 0} (secrets : SecretsPair) (link stay : ℕ) (l : Live) (u : UnitState S) → u.live ≡ Some l → without link l.members ≡ []
     → left_of u.live secrets link stay [] u ≡ record u { scripts = unmade l u.time u.scripts; live = None }
 left_is {S = S} secrets link stay l u live e =
     ap (λ (o : Option Live). left_of o secrets link stay [] u) live ∙ ap (λ (ms : List Member). left_by ms secrets l link stay [] u) e

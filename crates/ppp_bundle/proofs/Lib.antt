@@ -18,3 +18,4 @@ pub mod LeaveMoments
 pub mod GoesFacts
 pub mod StandFacts
 pub mod StandMoments
+pub mod StandSteps

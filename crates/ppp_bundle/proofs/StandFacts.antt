@@ -15,16 +15,8 @@ use Rattle.ppp_mark.specs.ScriptLog.{log_closed_at, log_opened, next_opening, wi
 use Rattle.ppp_mark.specs.Scripts.{marks_at, said_in}
 use Rattle.ppp_outside.specs.declared.hook_words.HookArgs.{HookArgs}
 use Rattle.ppp_outside.specs.declared.spawner.ScriptEnd.{ScriptEnd}
-use Rattle.ppp_bundle.specs.MayStand.{AllMayStand, IsLast, MayStandHere, is_closing_in}
+use Rattle.ppp_bundle.specs.MayStand.{AllMayStand, IsLast, MayStandHere, Stands, is_closing_in}
 use Rattle.ppp_bundle.specs.Replay.{bundle_in, bundles_in, openings_in, stay_in}
-
--- What a log says: the bundle that lives, who is a member, and whether it is being closed; and each of its marks stands where it may.
-pub record Stands (number : Option ℕ) (stays : ℕ → Option ℕ) (closing : Bool) (past : List Mark) : Type 0 where
-  pub all : AllMayStand past
-  pub bundle : bundle_in past ≡ number
-  pub stays_are : (link : ℕ) → stay_in link past ≡ stays link
-  pub closing_is : is_closing_in past ≡ closing
-  pub openings : greatest_in (said_in past) ≡ openings_in 0 past
 
 not_kind : {P : Type 0} (a b : ℕ) → (a == b) ≡ false → a ≡ b → P
 not_kind a b e f = absurd (grind (arith, nat_tests))

@@ -24,24 +24,14 @@ use Rattle.ppp_bundle.specs.Closing.{closed_if, closed_of, outs, unmade}
 use Rattle.ppp_bundle.specs.IpCalls.{called, finish_of, finished, has_finished, live_left, live_tells}
 use Rattle.ppp_bundle.specs.Frames.{carried_by, gave, heard, not_open, passed, too_big, with_pass}
 use Rattle.ppp_bundle.specs.Member.{stay_of}
+use Rattle.ppp_bundle.specs.MayStand.{Stands, UnitStands, number_of}
 use Rattle.ppp_bundle.specs.Sends.{sends, sends_of, whole_on}
 use Rattle.ppp_bundle.specs.UnitPart.{script_over}
 use Rattle.ppp_bundle.specs.ScriptParts.{marked, shut}
 use Rattle.ppp_bundle.specs.State.{UnitState, is_open, is_up, members_of, most_to_peer}
 use Rattle.ppp_bundle.proofs.CallMoments.{args_then, one_sent, scripts_turned, target_turned, turned_unit}
 use Rattle.ppp_bundle.proofs.MidMoments.{after_call, call_is}
-use Rattle.ppp_bundle.proofs.StandFacts.{Shut, Stands, close_stands, due_stands, ended_stands, opened_stands, out_stands, shut_stands, unmade_stands}
-
-abbrev pub number_of : Option Live → Option ℕ
-number_of None = None
-number_of (Some l) = Some l.number
-
--- What the log of a unit says is what it keeps, and each mark stands where it may.
-pub record UnitStands {S : Type 0} (u : UnitState S) : Type 0 where
-  pub stands : Stands (number_of u.live) (λ x. stay_of x (members_of u.live)) false u.scripts.log.past
-  pub few : length (members_of u.live) ≤ 1
-  pub target : u.scripts.machine.target ≡ OfUnit u.unit
-  pub plain : IfSome u.live (λ l. l.mrru ≡ None)
+use Rattle.ppp_bundle.proofs.StandFacts.{Shut, close_stands, due_stands, ended_stands, opened_stands, out_stands, shut_stands, unmade_stands}
 
 same_number : (n : ℕ) → (n == n) ≡ true
 same_number n = grind (arith, nat_tests)
@@ -64,7 +54,7 @@ outs_stand number (m ∷ []) closing time s few h =
     (out_stands number (λ x. stay_of x (m ∷ [])) closing s.log.past time m.link m.stay h (ap (λ (b : Bool). if b then Some m.stay else None) (same_number m.link)))
 outs_stand number (m ∷ n ∷ members) closing time s few h = absurd (omega (arith, few))
 
-unmade_stand : {S : Type 0} (l : Live) (closing : Bool) (unit time : ℕ) (s : ScriptLogState S) → s.machine.target ≡ OfUnit unit → length l.members ≤ 1
+pub unmade_stand : {S : Type 0} (l : Live) (closing : Bool) (unit time : ℕ) (s : ScriptLogState S) → s.machine.target ≡ OfUnit unit → length l.members ≤ 1
     → Stands (Some l.number) (λ x. stay_of x l.members) closing s.log.past → Stands None (λ x. None) false (unmade l time s).log.past
 unmade_stand l closing unit time s target few h =
     unmade_stands l.number (λ x. None) closing _ time
@@ -72,7 +62,7 @@ unmade_stand l closing unit time s target few h =
       (shut_stands s.machine.target (open_in (said_in s.log.past)) unit (Some l.number) (λ x. stay_of x l.members) closing time s.log target refl h))
     (λ x. refl)
 
-outs_target : {S : Type 0} (members : List Member) (time : ℕ) (s : ScriptLogState S) → (outs time members s).machine.target ≡ s.machine.target
+pub outs_target : {S : Type 0} (members : List Member) (time : ℕ) (s : ScriptLogState S) → (outs time members s).machine.target ≡ s.machine.target
 outs_target [] time s = refl
 outs_target (m ∷ members) time s = outs_target members time (marked (out_mark time m.link m.stay) s)
 
@@ -130,7 +120,7 @@ called_stands {S = S} secrets call (Some l) u e h =
 -- EACH EVENT
 
 -- what changes neither the log, the number, members and MRRU of the bundle, nor the machine
-same_stands : {S : Type 0} (old new : UnitState S) → UnitStands old → number_of new.live ≡ number_of old.live → members_of new.live ≡ members_of old.live → new.scripts ≡ old.scripts → new.unit ≡ old.unit
+pub same_stands : {S : Type 0} (old new : UnitState S) → UnitStands old → number_of new.live ≡ number_of old.live → members_of new.live ≡ members_of old.live → new.scripts ≡ old.scripts → new.unit ≡ old.unit
     → IfSome new.live (λ l. l.mrru ≡ None) → UnitStands new
 same_stands {S = S} old new h n m s i p = record {
   stands = rw (n, m, s) h.stands;
@@ -139,7 +129,7 @@ same_stands {S = S} old new h n m s i p = record {
   plain = p;
 }
 
-either_stands : {S : Type 0} (b : Bool) (x y : UnitState S) → UnitStands x → UnitStands y → UnitStands (if b then x else y)
+pub either_stands : {S : Type 0} (b : Bool) (x y : UnitState S) → UnitStands x → UnitStands y → UnitStands (if b then x else y)
 either_stands true x y h k = h
 either_stands false x y h k = k
 
@@ -155,16 +145,16 @@ send_stands {S = S} (Some l) protocol information u e h =
     subst (λ (v : UnitState S). UnitStands v) (sym (one_sent l.mrru l protocol information u plain))
     (same_stands u (record u { sent = u.sent ++ whole_on l.members protocol information; live = Some l }) h (ap number_of (sym e)) (ap members_of (sym e)) refl refl plain)
 
-gave_stands : {S : Type 0} (datagram : List ℕ) (u : UnitState S) → UnitStands u → UnitStands (gave datagram u)
+pub gave_stands : {S : Type 0} (datagram : List ℕ) (u : UnitState S) → UnitStands u → UnitStands (gave datagram u)
 gave_stands {S = S} datagram u h =
     let v : UnitState S = record u { given = u.given ++ datagram ∷ [] } in
     either_stands (is_open u.live) (with_pass v) (not_open u) (pass_stands v.live v refl (same_stands u v h refl refl refl refl h.plain)) (same_stands u (not_open u) h refl refl refl refl h.plain)
 
-heard_stands : {S : Type 0} (secrets : SecretsPair) (p : Option Packet) (u : UnitState S) → UnitStands u → UnitStands (heard secrets p u)
+pub heard_stands : {S : Type 0} (secrets : SecretsPair) (p : Option Packet) (u : UnitState S) → UnitStands u → UnitStands (heard secrets p u)
 heard_stands secrets None u h = h
 heard_stands secrets (Some p) u h = called_stands secrets (Hears p) u.live u refl h
 
-carried_stands : {S : Type 0} (datagram : List ℕ) (o : Option Live) (u : UnitState S) → u.live ≡ o → UnitStands u → UnitStands (if is_open o then carried_by o datagram u else not_open u)
+pub carried_stands : {S : Type 0} (datagram : List ℕ) (o : Option Live) (u : UnitState S) → u.live ≡ o → UnitStands u → UnitStands (if is_open o then carried_by o datagram u else not_open u)
 carried_stands datagram None u e h = same_stands u (not_open u) h refl refl refl refl h.plain
 carried_stands {S = S} datagram (Some l) u e h =
     let v : UnitState S = sends IP datagram u in
@@ -173,7 +163,7 @@ carried_stands {S = S} datagram (Some l) u e h =
     (either_stands (nat_le (length datagram) (most_to_peer l)) (with_pass v) (too_big u) (pass_stands v.live v refl k) (same_stands u (too_big u) h refl refl refl refl h.plain))
     (same_stands u (not_open u) h refl refl refl refl h.plain)
 
-over_stands : {S : Type 0} (done : DoneState S) (u : UnitState S) → UnitStands u → UnitStands (script_over done u)
+pub over_stands : {S : Type 0} (done : DoneState S) (u : UnitState S) → UnitStands u → UnitStands (script_over done u)
 over_stands done u h =
     let past = ended_mark u.time done.answer (ends_in (said_in u.scripts.log.past) + 1) ∷ u.scripts.log.past in
     record {

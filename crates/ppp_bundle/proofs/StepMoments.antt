@@ -103,7 +103,7 @@ opens_quietly wish i a now e = rw e refl
 abbrev pub with_first : {S : Type 0} → ℕ → ℕ → ℕ → Live → UnitState S → UnitState S
 with_first link stay mru l u = record u { scripts = marked (in_mark u.time link stay) u.scripts; live = Some (record l { members = member link stay mru ∷ [] }) }
 
-entered_is : {S : Type 0} (secrets : SecretsPair) (link stay mru : ℕ) (l : Live) (u : UnitState S) → u.live ≡ Some l → l.members ≡ []
+pub entered_is : {S : Type 0} (secrets : SecretsPair) (link stay mru : ℕ) (l : Live) (u : UnitState S) → u.live ≡ Some l → l.members ≡ []
     → entered secrets link stay mru u ≡ called secrets ComesUp (called secrets Opens (with_first link stay mru l u))
 entered_is {S = S} secrets link stay mru l u live e =
     ap (λ (o : Option Live). entered_of o secrets link stay mru u) live

@@ -20,6 +20,6 @@ pub mod Gathers
 pub mod UnitPart
 pub mod Sound
 pub mod History
-pub mod Lives
 pub mod MayStand
+pub mod Lives
 pub mod Rows

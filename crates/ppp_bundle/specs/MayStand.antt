@@ -1,10 +1,14 @@
 -- Where the marks of bundles and members may stand in a unit's log, by the marks before them, the newest first.
-use Rattle.std.specs.Prelude.{ℕ, ◌+◌, ◌≡◌, ◌≢◌, ◌⊎◌, ◌==◌, ◌||◌, ⊤, Bool, true, false, if◌then◌else◌, Option, None, Some, IsSome, List, [], ◌∷◌}
-use Rattle.ppp_hooks.specs.HookPast.{open_in}
+use Rattle.std.specs.Prelude.{ℕ, ◌+◌, ◌≡◌, ◌≢◌, ◌⊎◌, ◌==◌, ◌||◌, ⊤, Bool, true, false, if◌then◌else◌, Option, None, Some, IsSome, IfSome, List, [], ◌∷◌, length, ◌≤◌}
+use Rattle.ppp_hooks.specs.HookPast.{greatest_in, open_in}
 use Rattle.ppp_mark.specs.declared.mark.Mark.{Mark}
 use Rattle.ppp_mark.specs.declared.kind.TheConstants.{CLOSE, IN, IP_OPEN, MADE, OUT, UNMADE}
 use Rattle.ppp_mark.specs.Scripts.{said_in}
 use Rattle.ppp_bundle.specs.Replay.{bundle_in, bundles_in, openings_in, stay_in}
+use Rattle.ppp_bundle.specs.declared.live.Live.{Live}
+use Rattle.ppp_bundle.specs.Member.{stay_of}
+use Rattle.ppp_bundle.specs.State.{UnitState, members_of}
+use Rattle.ppp_base.specs.declared.hook_target.HookTarget.TheVariants.{Unit as OfUnit}
 
 -- whether the bundle that lives is being closed
 abbrev pub is_closing_in : List Mark → Bool
@@ -30,3 +34,22 @@ pub record MayStandHere (past : List Mark) (m : Mark) : Type 0 where
 abbrev pub AllMayStand : List Mark → Type 0
 AllMayStand [] = ⊤
 AllMayStand (m ∷ past) = MayStandHere past m × AllMayStand past
+
+-- What a log says: the bundle that lives, who is a member, and whether it is being closed; and each of its marks stands where it may.
+pub record Stands (number : Option ℕ) (stays : ℕ → Option ℕ) (closing : Bool) (past : List Mark) : Type 0 where
+  pub all : AllMayStand past
+  pub bundle : bundle_in past ≡ number
+  pub stays_are : (link : ℕ) → stay_in link past ≡ stays link
+  pub closing_is : is_closing_in past ≡ closing
+  pub openings : greatest_in (said_in past) ≡ openings_in 0 past
+
+abbrev pub number_of : Option Live → Option ℕ
+number_of None = None
+number_of (Some l) = Some l.number
+
+-- What the log of a unit says is what it keeps, and each mark stands where it may.
+pub record UnitStands {S : Type 0} (u : UnitState S) : Type 0 where
+  pub stands : Stands (number_of u.live) (λ x. stay_of x (members_of u.live)) false u.scripts.log.past
+  pub few : length (members_of u.live) ≤ 1
+  pub target : u.scripts.machine.target ≡ OfUnit u.unit
+  pub plain : IfSome u.live (λ l. l.mrru ≡ None)
