@@ -219,19 +219,10 @@ with_bundle {S = S} secrets event u l live unit may sent given =
     let g = goes_on h.terms h.past secrets event u l live unit.sound.agrees.target h.lives sent given may plain in
     history_of h.terms (g.since ++ h.past) v v.live v.ended g.goes
 
-history_step : {S : Type 0} (secrets : SecretsPair) (event : BundleEvent S) (u : UnitState S) (o : Option Live) → u.live ≡ o → IsUnit u → IsPlainEvent event → MayCome event u → u.sent ≡ [] → u.given ≡ []
+pub history_step : {S : Type 0} (secrets : SecretsPair) (event : BundleEvent S) (u : UnitState S) (o : Option Live) → u.live ≡ o → IsUnit u → IsPlainEvent event → MayCome event u → u.sent ≡ [] → u.given ≡ []
     → let v = plain_step secrets event u in IfSome v.live (HasHistory (since_made v.scripts.log.past) v.time v.gather)
 history_step secrets event u None live unit plain may sent given = without_bundle secrets event u (terms_of event u) refl live plain may unit.sound.agrees.target
 history_step secrets event u (Some l) live unit plain may sent given = with_bundle secrets event u l live unit may sent given
-
-pub unit_after : {S : Type 0} (result : Stepped (BundleEvent S)) (secrets : SecretsPair) (event : BundleEvent S) (old new : UnitState S) → IsUnit old → IsSound new → IsPlainEvent event → MayCome event old
-    → old.sent ≡ [] → old.given ≡ [] → OnTaken result (new ≡ after_step secrets event (record { gather = old.gather; packets = [] }) old) → IfStale result (λ back. (back ≡ event) × (new ≡ old)) → IsUnit new
-unit_after {S = S} Taken secrets event old new unit sound plain may sent given is stale =
-    record {
-      sound = sound;
-      history = subst (λ (v : UnitState S). IfSome v.live (HasHistory (since_made v.scripts.log.past) v.time v.gather)) (sym is) (history_step secrets event old old.live refl unit plain may sent given);
-    }
-unit_after {S = S} (Stale back) secrets event old new unit sound plain may sent given is stale = subst (λ (v : UnitState S). IsUnit v) (sym stale.1) unit
 
 goes_all : {S : Type 0} (secrets : SecretsPair) (event : BundleEvent S) (u : UnitState S) (o : Option Live) → u.live ≡ o → IsUnit u → MayCome event u → u.sent ≡ [] → u.given ≡ []
     → (terms : Terms) (past : List Moment) → IfSome o (λ l. Lives terms (since_made u.scripts.log.past) u.time u.gather l past → GoesOn terms past secrets event u (plain_step secrets event u))

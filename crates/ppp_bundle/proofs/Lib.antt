@@ -19,3 +19,4 @@ pub mod GoesFacts
 pub mod StandFacts
 pub mod StandMoments
 pub mod StandSteps
+pub mod UnitFacts

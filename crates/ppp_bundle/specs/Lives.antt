@@ -20,6 +20,7 @@ use Rattle.ppp_bundle.specs.declared.live.Live.{Live}
 use Rattle.ppp_bundle.specs.declared.member.Member.{Member}
 use Rattle.ppp_bundle.specs.declared.outbox.BundleEnd.{BundleEnd}
 use Rattle.ppp_bundle.specs.History.{Moment, Enters, Goes, Brings, Gathered, Carries, Passes, Calls, Terms, HasReason, InOrder, asked_in, by_peer_after, calls_in, counts_in, cuts_in, entered_in, entries_in, gathered_in, given_in, is_member_in, mru_in, opened_in, passed_in, time_in, was_up_after, whole_in}
+use Rattle.ppp_bundle.specs.MayStand.{UnitStands}
 use Rattle.ppp_bundle.specs.Member.{is_link, views_of}
 use Rattle.ppp_bundle.specs.Replay.{since_made}
 use Rattle.ppp_bundle.specs.Sound.{IsSound}
@@ -167,3 +168,4 @@ pub record HasHistory (marks time : ℕ) (gather : GatherNow) (l : Live) : Type 
 pub record IsUnit {S : Type 0} (u : UnitState S) : Type 0 where
   pub sound : IsSound u
   pub history : IfSome u.live (HasHistory (since_made u.scripts.log.past) u.time u.gather)
+  pub marks : UnitStands u

@@ -9,6 +9,7 @@ ghost use Rattle.ppp_mark.specs.Log.{no_marks};
 ghost use Rattle.ppp_mark.specs.Scripts.{LogLaw, LogSettled, said_in};
 ghost use Rattle.ppp_bundle.specs.Gathers.{Gathered};
 ghost use Rattle.ppp_bundle.specs.Lives.{GoesOnAll, HasBegun, HasHistory};
+ghost use Rattle.ppp_bundle.specs.MayStand.{AllMayStand};
 ghost use Rattle.ppp_bundle.specs.Replay.{Replay, since_made};
 ghost use Rattle.ppp_bundle.specs.Sound.{IsGoing, IsSound};
 ghost use Rattle.ppp_bundle.specs.State.{is_open};
@@ -115,6 +116,7 @@ impl<S: Spawner> UnitCore<S> {
 
 impl<S: Spawner> Bundle<S> {
     /// A unit without a bundle, whose log has room for so many marks. All memory that is ever needed is taken here.
+    #[tactic(auto, using(crate::proofs::UnitFacts::new_stands))]
     pub fn new(alloc: Global, unit: Unit, spawner: S, loglimit: u32) -> Result<Bundle<S>, NoMemory>
         requires limit { (4096 ≤ loglimit) × (loglimit ≤ 1048576) }
         requires tries { S.tries spawner < 2 ^ 63 }
@@ -151,7 +153,7 @@ impl<S: Spawner> Bundle<S> {
 
     /// One event. A script's end that isn't the running job's is stale: it comes back, and nothing changes. So far no
     /// multilink bundle may be made. It takes no memory.
-    #[tactic(auto, using(crate::proofs::PlainFacts::plain_part, crate::proofs::GoesFacts::unit_after, crate::proofs::GoesFacts::goes_after, crate::proofs::GoesFacts::begun_after))]
+    #[tactic(auto, using(crate::proofs::PlainFacts::plain_part, crate::proofs::UnitFacts::unit_after, crate::proofs::GoesFacts::goes_after, crate::proofs::GoesFacts::begun_after))]
     pub fn step(&mut self, event: BundleEvent<S>, secrets: &SecretsPair) -> Stepped<BundleEvent<S>>
         requires may { MayCome event self.old }
         requires plain { IsPlainEvent event }
@@ -213,6 +215,7 @@ impl<S: Spawner> Bundle<S> {
         ensures law { LogLaw 0 self.now.scripts.log.past }
         ensures settled { LogSettled self.now.scripts.log.past (is_open self.now.live) }
         ensures replay { Replay self.now self.now.scripts.log.past }
+        ensures marks { AllMayStand self.now.scripts.log.past }
         ensures history { IfSome self.now.live (HasHistory (since_made self.now.scripts.log.past) self.now.time self.now.gather) }
         ensures room { IfSome self.now.live (λ l. l.made_at + 1024 ≤ self.now.scripts.log.limit) }
     {
