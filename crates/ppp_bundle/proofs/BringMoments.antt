@@ -79,8 +79,15 @@ brings_still {S = S} terms past secrets link protocol information u l at given c
     record {
       since = Brings secrets link protocol information ∷ [];
       own_is = refl;
-      stands = inl (record { l = record l { passed_at = at }; live = refl; reached = reached_brings terms past u.time u.gather l secrets link protocol information at plain r m.asked_is is;
-        asked_is = asked; going = m.going; ended = m.ended; target = m.target });
+      stands = inl (record {
+        l = record l { passed_at = at };
+        live = refl;
+        reached = reached_brings terms past u.time u.gather l secrets link protocol information at plain r m.asked_is is;
+        asked_is = asked;
+        going = m.going;
+        ended = m.ended;
+        target = m.target;
+      });
       calm = record { idle = calm.idle; connect = calm.connect };
       flows = flows_first terms (Brings secrets link protocol information) past u.counts v (sent ∙ nothing_whole (entered_in past)) gives drops;
     }
@@ -146,7 +153,7 @@ does_give : {S : Type 0} (terms : Terms) (past : List Moment) (secrets : Secrets
     → terms.mrru ≡ None → Mid terms past [] (record u { live = Some l }) → Reached terms u.time u.gather l past → Calm (record u { live = Some l }) → u.sent ≡ [] → u.given ≡ []
     → OfMember terms past secrets link protocol information up false true
     → Does terms past (Brings secrets link protocol information ∷ []) u.counts
-      (if up then with_pass (record u { live = Some l; given = u.given ++ information ∷ [] }) else not_open (record u { live = Some l }))
+    (if up then with_pass (record u { live = Some l; given = u.given ++ information ∷ [] }) else not_open (record u { live = Some l }))
 does_give terms past secrets link protocol information u l true plain m r calm sent given b =
     brings_still terms past secrets link protocol information u l u.time (u.given ++ information ∷ []) u.counts plain m r sent
     b.asked
@@ -189,10 +196,10 @@ does_hear {S = S} terms past secrets link protocol information u l up (Some p) p
       target = m.target;
     } in
     let flows : Flows terms (Brings secrets link protocol information ∷ []) past u.counts w = flows_first terms (Brings secrets link protocol information) past u.counts w
-      (sent ∙ nothing_whole (entered_in past)) (given ∙ nothing_of up ∙ sym b.gives) (sym (ap (λ (d : Option Drop). counted d u.counts) b.drops)) in
+    (sent ∙ nothing_whole (entered_in past)) (given ∙ nothing_of up ∙ sym b.gives) (sym (ap (λ (d : Option Drop). counted d u.counts) b.drops)) in
     let d = call_on terms (Brings secrets link protocol information ∷ []) past u.counts secrets (Hears p) (hears p a ∷ []) [] w plain m1 refl
-      (λ none. absurd (no_member link l.members (mru_in link past) (has_plain terms.mrru l.members past plain r.some ∙ ap (λ (o : Option MemberView). option_to_list o) none) (r.members link) e))
-      (λ h. refl) flows in
+    (λ none. absurd (no_member link l.members (mru_in link past) (has_plain terms.mrru l.members past plain r.some ∙ ap (λ (o : Option MemberView). option_to_list o) none) (r.members link) e))
+    (λ h. refl) flows in
     record {
       since = Calls (call_made secrets u.time (Hears p) l) ∷ Brings secrets link protocol information ∷ [];
       own_is = refl;
@@ -209,7 +216,7 @@ does_member : {S : Type 0} (terms : Terms) (past : List Moment) (secrets : Secre
     → terms.mrru ≡ None → Mid terms past [] (record u { live = Some l }) → Reached terms u.time u.gather l past → Calm (record u { live = Some l }) → u.sent ≡ [] → u.given ≡ []
     → is_member_in link past ≡ true → (protocol == MULTILINK) ≡ ml → (protocol == IPCP) ≡ ipcp → (protocol == IP) ≡ ip
     → Does terms past (Brings secrets link protocol information ∷ []) u.counts
-      (if ml then record u { live = Some l } else (if ipcp then heard secrets (packet_in information) (record u { live = Some l }) else (if ip then gave information (record u { live = Some l }) else record u { live = Some l })))
+    (if ml then record u { live = Some l } else (if ipcp then heard secrets (packet_in information) (record u { live = Some l }) else (if ip then gave information (record u { live = Some l }) else record u { live = Some l })))
 does_member terms past secrets link protocol information u l true ipcp ip plain m r calm sent given e f g h =
     does_nothing terms past secrets link protocol information u l (is_up_in terms past) false plain m r calm sent given
     (of_member terms past secrets link protocol information (is_up_in terms past) false false e refl (other_than protocol MULTILINK IPCP f refl) (other_than protocol MULTILINK IP f refl)) refl
@@ -227,7 +234,7 @@ does_frame_by : {S : Type 0} (terms : Terms) (past : List Moment) (secrets : Sec
     → terms.mrru ≡ None → Mid terms past [] (record u { live = Some l }) → Reached terms u.time u.gather l past → Calm (record u { live = Some l }) → u.sent ≡ [] → u.given ≡ []
     → is_member_in link past ≡ there
     → Does terms past (Brings secrets link protocol information ∷ []) u.counts
-      (if there then (if protocol == MULTILINK then used_all secrets [] (record u { live = Some l }) else brought secrets protocol information (record u { live = Some l })) else stranger (record u { live = Some l }))
+    (if there then (if protocol == MULTILINK then used_all secrets [] (record u { live = Some l }) else brought secrets protocol information (record u { live = Some l })) else stranger (record u { live = Some l }))
 does_frame_by terms past secrets link protocol information u l true plain m r calm sent given e =
     does_member terms past secrets link protocol information u l (protocol == MULTILINK) (protocol == IPCP) (protocol == IP) plain m r calm sent given e refl refl refl
 does_frame_by terms past secrets link protocol information u l false plain m r calm sent given e =
@@ -239,5 +246,5 @@ does_frame {S = S} terms past secrets link protocol information u plain m calm s
     let same : u ≡ record u { live = Some m.l } = ap (λ (o : Option Live). record u { live = o }) m.live in
     subst (λ (v : UnitState S). Does terms past (Brings secrets link protocol information ∷ []) u.counts (framed secrets link protocol information [] v)) (sym same)
     (does_frame_by terms past secrets link protocol information u m.l (has_link link m.l.members) plain
-      (record { l = m.l; live = refl; reached = m.reached; asked_is = m.asked_is; going = m.going; ended = m.ended; target = m.target }) m.reached
-      (subst (λ (v : UnitState S). Calm v) same calm) sent given (sym (ap is_some (m.reached.members link)) ∙ sym (has_is link m.l.members)))
+    (record { l = m.l; live = refl; reached = m.reached; asked_is = m.asked_is; going = m.going; ended = m.ended; target = m.target }) m.reached
+    (subst (λ (v : UnitState S). Calm v) same calm) sent given (sym (ap is_some (m.reached.members link)) ∙ sym (has_is link m.l.members)))

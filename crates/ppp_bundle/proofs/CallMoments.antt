@@ -199,7 +199,7 @@ reached_call terms past secrets call rest time gather l plain r asked quiet =
       allow = r.allow;
       mrru = r.mrru;
       was_open = opened_is (is_up l) (is_up (live_left secrets time call l)) (is_up_after terms.wish (c ∷ calls_in past)) l.was_open (was_up_after terms.wish (calls_in past)) is r.was_open
-        (λ e. was_up terms.wish (calls_in past) (sym was ∙ e));
+          (λ e. was_up terms.wish (calls_in past) (sym was ∙ e));
       by_peer = peer_is l.by_peer (by_peer_after terms.wish (calls_in past)) (is_up l) (is_up_in terms past) (is_rtr (live_tells secrets time call l).event) r.by_peer was;
       opened_at = at_is (is_up l) (is_up (live_left secrets time call l)) (is_up_in terms past) (is_up_after terms.wish (c ∷ calls_in past)) time l.opened_at _ was is r.opened_at;
       passed_at = at_is (is_up l) (is_up (live_left secrets time call l)) (is_up_in terms past) (is_up_after terms.wish (c ∷ calls_in past)) time l.passed_at _ was is r.passed_at;

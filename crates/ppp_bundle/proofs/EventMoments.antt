@@ -61,7 +61,7 @@ idle_over {S = S} terms past end u plain e m =
     subst (λ (x : Ending). Over terms past (closed x u)) p.end_is
     (closed_over terms past u m.l (ending Idle (min (u.time - m.l.passed_at) most_elapsed)) m.live plain m.target m.reached m.asked_is
     (limit_reason terms past u.time m.l.wish.idle_s terms.wish.idle_s m.l.passed_at (passed_in terms past) (is_up m.l) Idle end m.reached.time_is
-      (up_is terms m.l.ipcp (calls_in past) m.reached.ipcp) (ap (λ (w : UnitWish). w.idle_s) m.reached.wish) m.reached.passed_at p))
+    (up_is terms m.l.ipcp (calls_in past) m.reached.ipcp) (ap (λ (w : UnitWish). w.idle_s) m.reached.wish) m.reached.passed_at p))
 
 pub connect_over : {S : Type 0} (terms : Terms) (past : List Moment) (end : Ending) (u : UnitState S) → terms.mrru ≡ None → connect_end u.time u.live ≡ Some end → Mid terms past [] u → Over terms past (closed end u)
 connect_over {S = S} terms past end u plain e m =
@@ -69,7 +69,7 @@ connect_over {S = S} terms past end u plain e m =
     subst (λ (x : Ending). Over terms past (closed x u)) p.end_is
     (closed_over terms past u m.l (ending ConnectTime (min (u.time - m.l.opened_at) most_elapsed)) m.live plain m.target m.reached m.asked_is
     (limit_reason terms past u.time m.l.wish.maxconnect_s terms.wish.maxconnect_s m.l.opened_at (opened_in terms past) (is_up m.l) ConnectTime end m.reached.time_is
-      (up_is terms m.l.ipcp (calls_in past) m.reached.ipcp) (ap (λ (w : UnitWish). w.maxconnect_s) m.reached.wish) m.reached.opened_at p))
+    (up_is terms m.l.ipcp (calls_in past) m.reached.ipcp) (ap (λ (w : UnitWish). w.maxconnect_s) m.reached.wish) m.reached.opened_at p))
 
 -- the marks are counted
 crowd_by : {S : Type 0} (terms : Terms) (past : List Moment) (b : Bool) (u : UnitState S) → terms.mrru ≡ None → nat_le 900 (since_made u.scripts.log.past) ≡ b → Mid terms past [] u → Calm u
@@ -83,6 +83,7 @@ crowd_by {S = S} terms past false u plain e m calm =
   where
     up : is_up m.l ≡ is_up_in terms past
     up = up_is terms m.l.ipcp (calls_in past) m.reached.ipcp
+
     none_for : (cause : CloseCause) (elapsed : ℕ) → HasReason terms past (since_made u.scripts.log.past) cause elapsed → ⊥
     none_for Idle elapsed over =
         not_past (is_up m.l) Idle m.l.wish.idle_s u.time m.l.passed_at (ap (λ (o : Option Live). idle_end u.time o) (sym m.live) ∙ calm.idle)
@@ -155,13 +156,16 @@ begins_calm terms past marks l u live lives =
   where
     r : Reached terms u.time u.gather l past
     r = lives.reached
+
     up : is_up l ≡ is_up_in terms past
     up = up_is terms l.ipcp (calls_in past) r.ipcp
+
     idle_none : (found : Option Ending) → limit_end (is_up l) Idle l.wish.idle_s u.time l.passed_at ≡ found → found ≡ None
     idle_none None e = refl
     idle_none (Some end) e = absurd (lives.no_reason Idle _ (limit_reason terms past u.time l.wish.idle_s terms.wish.idle_s l.passed_at (passed_in terms past) (is_up l) Idle end r.time_is up
-      (ap (λ (w : UnitWish). w.idle_s) r.wish) r.passed_at (is_past (is_up l) Idle l.wish.idle_s u.time l.passed_at end e)))
+        (ap (λ (w : UnitWish). w.idle_s) r.wish) r.passed_at (is_past (is_up l) Idle l.wish.idle_s u.time l.passed_at end e)))
+
     connect_none : (found : Option Ending) → limit_end (is_up l) ConnectTime l.wish.maxconnect_s u.time l.opened_at ≡ found → found ≡ None
     connect_none None e = refl
     connect_none (Some end) e = absurd (lives.no_reason ConnectTime _ (limit_reason terms past u.time l.wish.maxconnect_s terms.wish.maxconnect_s l.opened_at (opened_in terms past) (is_up l) ConnectTime end r.time_is up
-      (ap (λ (w : UnitWish). w.maxconnect_s) r.wish) r.opened_at (is_past (is_up l) ConnectTime l.wish.maxconnect_s u.time l.opened_at end e)))
+        (ap (λ (w : UnitWish). w.maxconnect_s) r.wish) r.opened_at (is_past (is_up l) ConnectTime l.wish.maxconnect_s u.time l.opened_at end e)))

@@ -4,7 +4,7 @@ use Rattle.std.specs.Prelude.{IfSome, option_to_list}
 use Rattle.ppp_base.specs.declared.hook_target.HookTarget.TheVariants.{Unit as OfUnit}
 use Rattle.ppp_base.specs.declared.stepped.Stepped.{Stepped}
 use Rattle.ppp_base.specs.declared.stepped.Stepped.TheVariants.{Taken, Stale}
-use Rattle.ppp_base.specs.Stepped.{IfStale, OnTaken}
+use Rattle.ppp_base.specs.Stepped.{OnTaken}
 use Rattle.ppp_base.specs.Mrru.{MrruPair}
 use Rattle.ppp_ipcp.specs.declared.wish.IpWish.{IpWish}
 use Rattle.ppp_ipcp.specs.Session.{StandsFor as IpcpStandsFor, session_after}
@@ -17,7 +17,6 @@ use Rattle.ppp_bundle.specs.declared.live.Live.{Live}
 use Rattle.ppp_bundle.specs.declared.member.Member.{Member}
 use Rattle.ppp_bundle.specs.declared.outbox.BundleEnd.{BundleEnd}
 use Rattle.ppp_bundle.specs.declared.outbox.Ending.{Ending}
-use Rattle.ppp_bundle.specs.Sound.{IsSound}
 use Rattle.ppp_bundle.specs.Closing.{closed_if, closed_of, crowded_end, looked}
 use Rattle.ppp_bundle.specs.History.{Moment, Terms, entered_in, whole_in}
 use Rattle.ppp_bundle.specs.Lives.{CutsAll, GathersAll, GoesOn, GoesOnAll, HasBegun, HasHistory, HasMember, IsUnit, Lives, LivesOrEnds, SendsSince, own_of, terms_of}

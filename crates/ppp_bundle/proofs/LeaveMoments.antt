@@ -46,14 +46,17 @@ pub does_leave : {S : Type 0} (terms : Terms) (past : List Moment) (secrets : Se
 does_leave {S = S} terms past secrets link stay u plain m last there sent given =
     let v : UnitState S = record u { scripts = unmade m.l u.time u.scripts; live = None } in
     let none : (x : ℕ) → is_member_in x (Goes link ∷ past) ≡ false = λ x.
-      ap (λ (o : Option ℕ). is_some (if link == x then None else o)) (sym (m.reached.members x))
-      ∙ all_gone m.l.members (entered_in past) link stay x (has_plain terms.mrru m.l.members past plain m.reached.some) there in
+    ap (λ (o : Option ℕ). is_some (if link == x then None else o)) (sym (m.reached.members x))
+    ∙ all_gone m.l.members (entered_in past) link stay x (has_plain terms.mrru m.l.members past plain m.reached.some) there in
     subst (λ (x : UnitState S). Does terms past (Goes link ∷ []) u.counts x) (sym (left_is secrets link stay m.l u m.live last))
     (record {
       since = Goes link ∷ [];
       own_is = refl;
-      stands = inr (record { live = refl; how = subst (λ (e : Option BundleEnd). LivesOrEnds terms (Goes link ∷ past) v None e) (sym m.ended)
-        (record { order = (m.asked_is, m.reached.order); none = none; last = tt }) });
+      stands = inr (record {
+        live = refl;
+        how = subst (λ (e : Option BundleEnd). LivesOrEnds terms (Goes link ∷ past) v None e) (sym m.ended)
+            (record { order = (m.asked_is, m.reached.order); none = none; last = tt });
+      });
       calm = record { idle = refl; connect = refl };
       flows = flows_first terms (Goes link) past u.counts v (sent ∙ nothing_whole (entered_in past)) (given ∙ nothing_of (is_up_in terms past)) refl;
     })

@@ -156,8 +156,8 @@ call_mid {S = S} terms past secrets call rest l u plain target ended r asked qui
     let v : UnitState S = after_call secrets call l u in
     subst (λ (x : UnitState S). Mid terms (Calls c ∷ past) rest x ⊎ Over terms (Calls c ∷ past) x) (sym (call_is secrets call l u (r.mrru ∙ plain)))
     (finishes terms (Calls c ∷ past) rest v _ (has_finished (live_tells secrets u.time call l).acts) (live_left secrets u.time call l).by_peer
-      refl plain (target_turned (is_up l) (is_up (live_left secrets u.time call l)) (args_then u.unit (live_left secrets u.time call l)) u.time u.scripts ∙ target) ended r2
-      (ap rest_only asked) refl (sym r2.by_peer) none)
+    refl plain (target_turned (is_up l) (is_up (live_left secrets u.time call l)) (args_then u.unit (live_left secrets u.time call l)) u.time u.scripts ∙ target) ended r2
+    (ap rest_only asked) refl (sym r2.by_peer) none)
   where
     rest_only : List (Call Around) → List (Call Around)
     rest_only [] = []
@@ -168,10 +168,10 @@ call_calm {S = S} secrets call l u e calm =
     let l1 : Live = live_left secrets u.time call l in
     subst (λ (x : UnitState S). Calm x) (sym (call_is secrets call l u e))
     (finished_calm (has_finished (live_tells secrets u.time call l).acts) l1.by_peer (after_call secrets call l u)
-      (record {
-        idle = turned_calm (is_up l) (is_up l1) Idle l.wish.idle_s u.time l.passed_at calm.idle;
-        connect = turned_calm (is_up l) (is_up l1) ConnectTime l.wish.maxconnect_s u.time l.opened_at calm.connect;
-      }))
+    (record {
+      idle = turned_calm (is_up l) (is_up l1) Idle l.wish.idle_s u.time l.passed_at calm.idle;
+      connect = turned_calm (is_up l) (is_up l1) ConnectTime l.wish.maxconnect_s u.time l.opened_at calm.connect;
+    }))
 
 pub call_time : {S : Type 0} (secrets : SecretsPair) (call : IpCall) (l : Live) (u : UnitState S) → l.mrru ≡ None → (called secrets call (record u { live = Some l })).time ≡ u.time
 call_time {S = S} secrets call l u e =
@@ -193,8 +193,8 @@ call_flows {S = S} terms since past counts secrets call l u plain r flows =
     subst (λ (x : UnitState S). Flows terms (Calls (call_made secrets u.time call l) ∷ since) past counts x) (sym (call_is secrets call l u (r.mrru ∙ plain)))
     (record {
       sends = ap (λ (x : List Sending). whole_in terms past ++ x) (k.sent ∙ sent)
-        ∙ sym (append_assoc (whole_in terms past) u.sent (whole_by (entered_in now) (packets_of out.packets)))
-        ∙ ap (λ (x : List Sending). x ++ whole_by (entered_in now) (packets_of out.packets)) flows.sends;
+          ∙ sym (append_assoc (whole_in terms past) u.sent (whole_by (entered_in now) (packets_of out.packets)))
+          ∙ ap (λ (x : List Sending). x ++ whole_by (entered_in now) (packets_of out.packets)) flows.sends;
       gives = ap (λ (x : List (List ℕ)). given_in terms past ++ x) k.given ∙ flows.gives ∙ sym (nothing_given (is_up_in terms now) (given_in terms now));
       counts_are = k.counts ∙ flows.counts_are;
     })

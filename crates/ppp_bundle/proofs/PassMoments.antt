@@ -92,47 +92,66 @@ carries_by {S = S} terms past datagram u l up fits plain m same calm sent given 
   where
     r : Reached terms u.time u.gather l past
     r = subst (λ (x : Live). Reached terms u.time u.gather x past) same m.reached
+
     was : (l.ipcp.core.fsm.state == 9) ≡ is_up_in terms past
     was = up_is terms l.ipcp (calls_in past) r.ipcp
+
     most : most_to_peer l ≡ most_in terms past
     most = most_is terms past u.time u.gather l plain r
+
     w : UnitState S
     w = record u { live = Some l }
+
     dropped : (up fits : Bool) → is_up_in terms past ≡ up → nat_le (length datagram) (most_in terms past) ≡ fits → (counts : UnitCounts)
-      → (if up && fits then time_in terms past else passed_in terms past) ≡ passed_in terms past → (if up && fits then inner IP datagram ∷ [] else []) ≡ []
-      → counts ≡ counted (if up then (if fits then None else Some TooBig) else Some NotOpen) u.counts → Does terms past (Carries datagram ∷ []) u.counts (record w { counts = counts })
+        → (if up && fits then time_in terms past else passed_in terms past) ≡ passed_in terms past → (if up && fits then inner IP datagram ∷ [] else []) ≡ []
+        → counts ≡ counted (if up then (if fits then None else Some TooBig) else Some NotOpen) u.counts → Does terms past (Carries datagram ∷ []) u.counts (record w { counts = counts })
     dropped up fits e f counts at none is =
         let v : UnitState S = record w { counts = counts } in
         record {
           since = Carries datagram ∷ [];
           own_is = refl;
-          stands = inl (record { l = l; live = refl; reached = reached_carries terms past u.time u.gather l datagram l.passed_at plain r m.asked_is
-            (r.passed_at ∙ sym at ∙ sym (both_is (is_up_in terms past) (nat_le (length datagram) (most_in terms past)) up fits (time_in terms past) (passed_in terms past) e f));
-            asked_is = refl; going = m.going; ended = m.ended; target = m.target });
+          stands = inl (record {
+            l = l;
+            live = refl;
+            reached = reached_carries terms past u.time u.gather l datagram l.passed_at plain r m.asked_is
+                (r.passed_at ∙ sym at ∙ sym (both_is (is_up_in terms past) (nat_le (length datagram) (most_in terms past)) up fits (time_in terms past) (passed_in terms past) e f));
+            asked_is = refl;
+            going = m.going;
+            ended = m.ended;
+            target = m.target;
+          });
           calm = record { idle = calm.idle; connect = calm.connect };
           flows = flows_first terms (Carries datagram) past u.counts v
-            (sent ∙ nothing_whole (entered_in past) ∙ ap (λ (x : List Inner). whole_by (entered_in past) x)
+              (sent ∙ nothing_whole (entered_in past) ∙ ap (λ (x : List Inner). whole_by (entered_in past) x)
               (sym (both_is (is_up_in terms past) (nat_le (length datagram) (most_in terms past)) up fits (inner IP datagram ∷ []) [] e f ∙ none)))
-            (given ∙ nothing_of (is_up_in terms past))
-            (is ∙ ap (λ (d : Option Drop). counted d u.counts) (sym (nested_is (is_up_in terms past) (nat_le (length datagram) (most_in terms past)) up fits None (Some TooBig) (Some NotOpen) e f)));
+              (given ∙ nothing_of (is_up_in terms past))
+              (is ∙ ap (λ (d : Option Drop). counted d u.counts) (sym (nested_is (is_up_in terms past) (nat_le (length datagram) (most_in terms past)) up fits None (Some TooBig) (Some NotOpen) e f)));
         }
+
     by_case : (up fits : Bool) → is_up_in terms past ≡ up → nat_le (length datagram) (most_in terms past) ≡ fits
-      → Does terms past (Carries datagram ∷ []) u.counts (if up then (if fits then with_pass (sends IP datagram w) else too_big w) else not_open w)
+        → Does terms past (Carries datagram ∷ []) u.counts (if up then (if fits then with_pass (sends IP datagram w) else too_big w) else not_open w)
     by_case true true e f =
         let v : UnitState S = record u { sent = u.sent ++ whole_on l.members IP datagram; live = Some (record l { passed_at = u.time }) } in
         subst (λ (x : UnitState S). Does terms past (Carries datagram ∷ []) u.counts x) (sym (ap with_pass (one_sent l.mrru l IP datagram u (r.mrru ∙ plain))))
         (record {
           since = Carries datagram ∷ [];
           own_is = refl;
-          stands = inl (record { l = record l { passed_at = u.time }; live = refl; reached = reached_carries terms past u.time u.gather l datagram u.time plain r m.asked_is
-            (r.time_is ∙ sym (both_is (is_up_in terms past) (nat_le (length datagram) (most_in terms past)) true true (time_in terms past) (passed_in terms past) e f));
-            asked_is = refl; going = m.going; ended = m.ended; target = m.target });
+          stands = inl (record {
+            l = record l { passed_at = u.time };
+            live = refl;
+            reached = reached_carries terms past u.time u.gather l datagram u.time plain r m.asked_is
+                (r.time_is ∙ sym (both_is (is_up_in terms past) (nat_le (length datagram) (most_in terms past)) true true (time_in terms past) (passed_in terms past) e f));
+            asked_is = refl;
+            going = m.going;
+            ended = m.ended;
+            target = m.target;
+          });
           calm = record { idle = fresh_calm (is_up l) Idle l.wish.idle_s u.time; connect = calm.connect };
           flows = flows_first terms (Carries datagram) past u.counts v
-            (ap (λ (x : List Sending). x ++ whole_on l.members IP datagram) sent ∙ whole_is l.members (entered_in past) IP datagram (has_plain terms.mrru l.members past plain r.some)
+              (ap (λ (x : List Sending). x ++ whole_on l.members IP datagram) sent ∙ whole_is l.members (entered_in past) IP datagram (has_plain terms.mrru l.members past plain r.some)
               ∙ ap (λ (x : List Inner). whole_by (entered_in past) x) (sym (both_is (is_up_in terms past) (nat_le (length datagram) (most_in terms past)) true true (inner IP datagram ∷ []) [] e f)))
-            (given ∙ nothing_of (is_up_in terms past))
-            (ap (λ (d : Option Drop). counted d u.counts) (sym (nested_is (is_up_in terms past) (nat_le (length datagram) (most_in terms past)) true true None (Some TooBig) (Some NotOpen) e f)));
+              (given ∙ nothing_of (is_up_in terms past))
+              (ap (λ (d : Option Drop). counted d u.counts) (sym (nested_is (is_up_in terms past) (nat_le (length datagram) (most_in terms past)) true true None (Some TooBig) (Some NotOpen) e f)));
         })
     by_case true false e f = dropped true false e f (too_big w).counts refl refl refl
     by_case false true e f = dropped false true e f (not_open w).counts refl refl refl
@@ -144,5 +163,5 @@ does_carry {S = S} terms past datagram u plain m calm sent given =
     let same : u ≡ record u { live = Some m.l } = ap (λ (o : Option Live). record u { live = o }) m.live in
     subst (λ (v : UnitState S). Does terms past (Carries datagram ∷ []) u.counts (carried datagram v)) (sym same)
     (carries_by terms past datagram u m.l (is_up m.l) (nat_le (length datagram) (most_to_peer m.l)) plain
-      (record { l = m.l; live = refl; reached = m.reached; asked_is = m.asked_is; going = m.going; ended = m.ended; target = m.target }) refl
-      (subst (λ (v : UnitState S). Calm v) same calm) sent given refl refl)
+    (record { l = m.l; live = refl; reached = m.reached; asked_is = m.asked_is; going = m.going; ended = m.ended; target = m.target }) refl
+    (subst (λ (v : UnitState S). Calm v) same calm) sent given refl refl)

@@ -1,5 +1,5 @@
 -- The marks of a unit stand where they may.
-use Rattle.std.proofs.Common.{◌≡◌, ◌⊎◌, inl, inr, ℕ, ◌+◌, Bool, true, false, cond, Option, None, Some, is_some, List, [], ◌∷◌, ◌++◌, refl, ap, sym, subst, ◌∙◌, arith}
+use Rattle.std.proofs.Common.{◌≡◌, ℕ, ◌+◌, Bool, true, false, cond, Option, None, Some, List, [], ◌∷◌, ◌++◌, refl, ap, sym, subst, ◌∙◌, arith}
 use Rattle.std.proofs.lemmas.Bool.Decides.{nat_tests}
 use Rattle.std.specs.Prelude.{◌==◌, if◌then◌else◌, IsSome}
 use Rattle.ppp_base.specs.declared.posts.CloseCause.{CloseCause}
@@ -15,8 +15,8 @@ use Rattle.ppp_mark.specs.ScriptLog.{log_closed_at, log_opened, next_opening, wi
 use Rattle.ppp_mark.specs.Scripts.{marks_at, said_in}
 use Rattle.ppp_outside.specs.declared.hook_words.HookArgs.{HookArgs}
 use Rattle.ppp_outside.specs.declared.spawner.ScriptEnd.{ScriptEnd}
-use Rattle.ppp_bundle.specs.MayStand.{AllMayStand, IsLast, MayStandHere, Stands, is_closing_in}
-use Rattle.ppp_bundle.specs.Replay.{bundle_in, bundles_in, openings_in, stay_in}
+use Rattle.ppp_bundle.specs.MayStand.{MayStandHere, Stands}
+use Rattle.ppp_bundle.specs.Replay.{bundles_in}
 
 not_kind : {P : Type 0} (a b : ℕ) → (a == b) ≡ false → a ≡ b → P
 not_kind a b e f = absurd (grind (arith, nat_tests))
@@ -55,14 +55,17 @@ closed_stands number stays closing past time n s =
 -- IP opens
 opens_stands : (number : ℕ) (stays : ℕ → Option ℕ) (past : List Mark) (time : ℕ) → Stands (Some number) stays false past → Stands (Some number) stays false (ip_open_mark time (greatest_in (said_in past) + 1) ∷ past)
 opens_stands number stays past time s = record {
-  all = (record {
-    made = not_kind IP_OPEN MADE refl;
-    comes = not_kind IP_OPEN IN refl;
-    opens = λ e. (subst (λ (o : Option ℕ). IsSome o) (sym s.bundle) refl, s.closing_is, ap (λ (n : ℕ). n + 1) s.openings);
-    closes = not_kind IP_OPEN CLOSE refl;
-    goes = not_kind IP_OPEN OUT refl;
-    unmade = not_kind IP_OPEN UNMADE refl;
-  }, s.all);
+  all = (
+    record {
+      made = not_kind IP_OPEN MADE refl;
+      comes = not_kind IP_OPEN IN refl;
+      opens = λ e. (subst (λ (o : Option ℕ). IsSome o) (sym s.bundle) refl, s.closing_is, ap (λ (n : ℕ). n + 1) s.openings);
+      closes = not_kind IP_OPEN CLOSE refl;
+      goes = not_kind IP_OPEN OUT refl;
+      unmade = not_kind IP_OPEN UNMADE refl;
+    },
+    s.all,
+  );
   bundle = s.bundle;
   stays_are = s.stays_are;
   closing_is = s.closing_is;
@@ -111,14 +114,17 @@ shut_stands (Link l) (Some n) unit number stays closing time log e f s = absurd 
 -- the marks of bundles and members
 pub close_stands : (number : ℕ) (stays : ℕ → Option ℕ) (past : List Mark) (time : ℕ) (cause : CloseCause) (elapsed : ℕ) → Stands (Some number) stays false past → Stands (Some number) stays true (close_mark time cause elapsed ∷ past)
 close_stands number stays past time cause elapsed s = record {
-  all = (record {
-    made = not_kind CLOSE MADE refl;
-    comes = not_kind CLOSE IN refl;
-    opens = not_kind CLOSE IP_OPEN refl;
-    closes = λ e. (subst (λ (o : Option ℕ). IsSome o) (sym s.bundle) refl, s.closing_is);
-    goes = not_kind CLOSE OUT refl;
-    unmade = not_kind CLOSE UNMADE refl;
-  }, s.all);
+  all = (
+    record {
+      made = not_kind CLOSE MADE refl;
+      comes = not_kind CLOSE IN refl;
+      opens = not_kind CLOSE IP_OPEN refl;
+      closes = λ e. (subst (λ (o : Option ℕ). IsSome o) (sym s.bundle) refl, s.closing_is);
+      goes = not_kind CLOSE OUT refl;
+      unmade = not_kind CLOSE UNMADE refl;
+    },
+    s.all,
+  );
   bundle = s.bundle;
   stays_are = s.stays_are;
   closing_is = refl;
@@ -129,14 +135,17 @@ pub out_stands : (number : Option ℕ) (stays : ℕ → Option ℕ) (closing : B
     → Shut number (λ x. if link == x then None else stays x) closing (out_mark time link stay ∷ past)
 out_stands number stays closing past time link stay s e = record {
   stands = record {
-    all = (record {
-      made = not_kind OUT MADE refl;
-      comes = not_kind OUT IN refl;
-      opens = not_kind OUT IP_OPEN refl;
-      closes = not_kind OUT CLOSE refl;
-      goes = λ f. (s.stands.stays_are link ∙ e, λ g. s.shut);
-      unmade = not_kind OUT UNMADE refl;
-    }, s.stands.all);
+    all = (
+      record {
+        made = not_kind OUT MADE refl;
+        comes = not_kind OUT IN refl;
+        opens = not_kind OUT IP_OPEN refl;
+        closes = not_kind OUT CLOSE refl;
+        goes = λ f. (s.stands.stays_are link ∙ e, λ g. s.shut);
+        unmade = not_kind OUT UNMADE refl;
+      },
+      s.stands.all,
+    );
     bundle = s.stands.bundle;
     stays_are = λ x. ap (λ (o : Option ℕ). if link == x then None else o) (s.stands.stays_are x);
     closing_is = s.stands.closing_is;
@@ -148,14 +157,17 @@ out_stands number stays closing past time link stay s e = record {
 pub unmade_stands : (number : ℕ) (stays : ℕ → Option ℕ) (closing : Bool) (past : List Mark) (time : ℕ) → Shut (Some number) stays closing past → ((link : ℕ) → stays link ≡ None)
     → Stands None (λ x. None) false (unmade_mark time number ∷ past)
 unmade_stands number stays closing past time s e = record {
-  all = (record {
-    made = not_kind UNMADE MADE refl;
-    comes = not_kind UNMADE IN refl;
-    opens = not_kind UNMADE IP_OPEN refl;
-    closes = not_kind UNMADE CLOSE refl;
-    goes = not_kind UNMADE OUT refl;
-    unmade = λ f. (s.stands.bundle, λ link. s.stands.stays_are link ∙ e link, s.shut);
-  }, s.stands.all);
+  all = (
+    record {
+      made = not_kind UNMADE MADE refl;
+      comes = not_kind UNMADE IN refl;
+      opens = not_kind UNMADE IP_OPEN refl;
+      closes = not_kind UNMADE CLOSE refl;
+      goes = not_kind UNMADE OUT refl;
+      unmade = λ f. (s.stands.bundle, λ link. s.stands.stays_are link ∙ e link, s.shut);
+    },
+    s.stands.all,
+  );
   bundle = refl;
   stays_are = λ x. s.stands.stays_are x ∙ e x;
   closing_is = refl;
@@ -164,14 +176,17 @@ unmade_stands number stays closing past time s e = record {
 
 pub made_stands : (stays : ℕ → Option ℕ) (past : List Mark) (time maker number : ℕ) → Stands None stays false past → number ≡ bundles_in 0 past + 1 → Stands (Some number) stays false (made_mark time maker number ∷ past)
 made_stands stays past time maker number s e = record {
-  all = (record {
-    made = λ f. (s.bundle, e);
-    comes = not_kind MADE IN refl;
-    opens = not_kind MADE IP_OPEN refl;
-    closes = not_kind MADE CLOSE refl;
-    goes = not_kind MADE OUT refl;
-    unmade = not_kind MADE UNMADE refl;
-  }, s.all);
+  all = (
+    record {
+      made = λ f. (s.bundle, e);
+      comes = not_kind MADE IN refl;
+      opens = not_kind MADE IP_OPEN refl;
+      closes = not_kind MADE CLOSE refl;
+      goes = not_kind MADE OUT refl;
+      unmade = not_kind MADE UNMADE refl;
+    },
+    s.all,
+  );
   bundle = refl;
   stays_are = s.stays_are;
   closing_is = refl;
@@ -181,14 +196,17 @@ made_stands stays past time maker number s e = record {
 pub in_stands : (number : ℕ) (stays : ℕ → Option ℕ) (past : List Mark) (time link stay : ℕ) → Stands (Some number) stays false past → stays link ≡ None
     → Stands (Some number) (λ x. if link == x then Some stay else stays x) false (in_mark time link stay ∷ past)
 in_stands number stays past time link stay s e = record {
-  all = (record {
-    made = not_kind IN MADE refl;
-    comes = λ f. (subst (λ (o : Option ℕ). IsSome o) (sym s.bundle) refl, s.stays_are link ∙ e, s.closing_is);
-    opens = not_kind IN IP_OPEN refl;
-    closes = not_kind IN CLOSE refl;
-    goes = not_kind IN OUT refl;
-    unmade = not_kind IN UNMADE refl;
-  }, s.all);
+  all = (
+    record {
+      made = not_kind IN MADE refl;
+      comes = λ f. (subst (λ (o : Option ℕ). IsSome o) (sym s.bundle) refl, s.stays_are link ∙ e, s.closing_is);
+      opens = not_kind IN IP_OPEN refl;
+      closes = not_kind IN CLOSE refl;
+      goes = not_kind IN OUT refl;
+      unmade = not_kind IN UNMADE refl;
+    },
+    s.all,
+  );
   bundle = s.bundle;
   stays_are = λ x. in_is (link == x) (s.stays_are x);
   closing_is = s.closing_is;

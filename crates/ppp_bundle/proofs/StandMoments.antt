@@ -1,10 +1,9 @@
 -- Each step of a plain bundle leaves the marks of its unit where they may stand.
-use Rattle.std.proofs.Common.{◌≡◌, ℕ, ◌+◌, ◌≤◌, Bool, true, false, cond, Option, None, Some, List, [], ◌∷◌, ◌++◌, length, refl, ap, sym, subst, ◌∙◌, arith}
+use Rattle.std.proofs.Common.{◌≡◌, ℕ, ◌+◌, ◌≤◌, Bool, true, false, Option, None, Some, List, [], ◌∷◌, ◌++◌, length, refl, ap, sym, subst, ◌∙◌, arith}
 use Rattle.std.proofs.lemmas.Bool.Decides.{nat_tests}
 use Rattle.std.specs.Prelude.{◌==◌, if◌then◌else◌, nat_le, IfSome}
 use Rattle.ppp_base.specs.declared.hook_target.HookTarget.TheVariants.{Unit as OfUnit}
 use Rattle.ppp_base.specs.declared.protocol.TheConstants.{IP}
-use Rattle.ppp_control.specs.declared.negotiation.StepOut.{StepOut}
 use Rattle.ppp_hooks.specs.HookPast.{ends_in, last_in, open_in}
 use Rattle.ppp_hooks.specs.HookRule.{due_for}
 use Rattle.ppp_hooks.specs.HookState.{DoneState}
@@ -29,7 +28,7 @@ use Rattle.ppp_bundle.specs.Sends.{sends, sends_of, whole_on}
 use Rattle.ppp_bundle.specs.UnitPart.{script_over}
 use Rattle.ppp_bundle.specs.ScriptParts.{marked, shut}
 use Rattle.ppp_bundle.specs.State.{UnitState, is_open, is_up, members_of, most_to_peer}
-use Rattle.ppp_bundle.proofs.CallMoments.{args_then, one_sent, scripts_turned, target_turned, turned_unit}
+use Rattle.ppp_bundle.proofs.CallMoments.{args_then, one_sent, scripts_turned, target_turned}
 use Rattle.ppp_bundle.proofs.MidMoments.{after_call, call_is}
 use Rattle.ppp_bundle.proofs.StandFacts.{Shut, close_stands, due_stands, ended_stands, opened_stands, out_stands, shut_stands, unmade_stands}
 
@@ -59,7 +58,7 @@ pub unmade_stand : {S : Type 0} (l : Live) (closing : Bool) (unit time : ℕ) (s
 unmade_stand l closing unit time s target few h =
     unmade_stands l.number (λ x. None) closing _ time
     (outs_stand (Some l.number) l.members closing time (shut time s) few
-      (shut_stands s.machine.target (open_in (said_in s.log.past)) unit (Some l.number) (λ x. stay_of x l.members) closing time s.log target refl h))
+    (shut_stands s.machine.target (open_in (said_in s.log.past)) unit (Some l.number) (λ x. stay_of x l.members) closing time s.log target refl h))
     (λ x. refl)
 
 pub outs_target : {S : Type 0} (members : List Member) (time : ℕ) (s : ScriptLogState S) → (outs time members s).machine.target ≡ s.machine.target
@@ -73,7 +72,7 @@ closed_stand {S = S} (Some l) end u e h =
     let before : Stands (Some l.number) (λ x. stay_of x l.members) false u.scripts.log.past = subst (λ (o : Option Live). Stands (number_of o) (λ x. stay_of x (members_of o)) false u.scripts.log.past) e h.stands in
     record {
       stands = unmade_stand l true u.unit u.time s h.target (subst (λ (o : Option Live). length (members_of o) ≤ 1) e h.few)
-        (close_stands l.number (λ x. stay_of x l.members) u.scripts.log.past u.time end.cause end.elapsed_ms before);
+          (close_stands l.number (λ x. stay_of x l.members) u.scripts.log.past u.time end.cause end.elapsed_ms before);
       few = omega arith;
       target = outs_target l.members u.time (shut u.time s) ∙ h.target;
       plain = tt;
@@ -101,12 +100,12 @@ call_stands {S = S} secrets call l u plain h =
     let l1 : Live = live_left secrets u.time call l in
     subst (λ (v : UnitState S). UnitStands v) (sym (call_is secrets call l u plain))
     (finished_stands (has_finished (live_tells secrets u.time call l).acts) l1.by_peer (after_call secrets call l u)
-      (record {
-        stands = scripts_stand (is_up l) (is_up l1) (args_then u.unit l1) u.unit u.time l.number (λ x. stay_of x l.members) u.scripts h.target h.stands;
-        few = h.few;
-        target = target_turned (is_up l) (is_up l1) (args_then u.unit l1) u.time u.scripts ∙ h.target;
-        plain = plain;
-      }))
+    (record {
+      stands = scripts_stand (is_up l) (is_up l1) (args_then u.unit l1) u.unit u.time l.number (λ x. stay_of x l.members) u.scripts h.target h.stands;
+      few = h.few;
+      target = target_turned (is_up l) (is_up l1) (args_then u.unit l1) u.time u.scripts ∙ h.target;
+      plain = plain;
+    }))
 
 pub called_stands : {S : Type 0} (secrets : SecretsPair) (call : IpCall) (o : Option Live) (u : UnitState S) → u.live ≡ o → UnitStands u → UnitStands (called secrets call u)
 called_stands {S = S} secrets call None u e h =
@@ -115,7 +114,7 @@ called_stands {S = S} secrets call None u e h =
 called_stands {S = S} secrets call (Some l) u e h =
     let same : u ≡ record u { live = Some l } = ap (λ (x : Option Live). record u { live = x }) e in
     subst (λ (v : UnitState S). UnitStands (called secrets call v)) (sym same) (call_stands secrets call l u (subst (λ (x : Option Live). IfSome x (λ l. l.mrru ≡ None)) e h.plain)
-      (subst (λ (v : UnitState S). UnitStands v) same h))
+    (subst (λ (v : UnitState S). UnitStands v) same h))
 
 -- EACH EVENT
 
@@ -168,7 +167,7 @@ over_stands done u h =
     let past = ended_mark u.time done.answer (ends_in (said_in u.scripts.log.past) + 1) ∷ u.scripts.log.past in
     record {
       stands = due_stands (number_of u.live) (λ x. stay_of x (members_of u.live)) false past _ (due_for (last_in (said_in past)) (open_in (said_in past))) u.time
-        (ended_stands (number_of u.live) (λ x. stay_of x (members_of u.live)) false u.scripts.log.past u.time done.answer (ends_in (said_in u.scripts.log.past) + 1) h.stands);
+          (ended_stands (number_of u.live) (λ x. stay_of x (members_of u.live)) false u.scripts.log.past u.time done.answer (ends_in (said_in u.scripts.log.past) + 1) h.stands);
       few = h.few;
       target = h.target;
       plain = h.plain;

@@ -1,11 +1,7 @@
 -- A step of a plain bundle leaves the marks of its unit where they may stand.
-use Rattle.std.proofs.Common.{◌≡◌, ℕ, ◌+◌, ◌≤◌, Bool, true, false, cond, Option, None, Some, List, [], ◌∷◌, length, refl, ap, sym, subst, ◌∙◌, arith}
-use Rattle.std.specs.Prelude.{◌==◌, IfSome, if◌then◌else◌}
-use Rattle.ppp_base.specs.declared.hook_target.HookTarget.TheVariants.{Unit as OfUnit}
+use Rattle.std.proofs.Common.{◌≡◌, ℕ, ◌≤◌, false, Option, None, Some, List, [], length, refl, ap, sym, subst, ◌∙◌, arith}
+use Rattle.std.specs.Prelude.{◌==◌, IfSome}
 use Rattle.ppp_base.specs.declared.protocol.TheConstants.{IP, IPCP, MULTILINK}
-use Rattle.ppp_base.specs.declared.stepped.Stepped.{Stepped}
-use Rattle.ppp_base.specs.declared.stepped.Stepped.TheVariants.{Taken, Stale}
-use Rattle.ppp_base.specs.Stepped.{IfStale, OnTaken}
 use Rattle.ppp_base.specs.declared.allow.Allow.{Allow}
 use Rattle.ppp_base.specs.Mrru.{MrruPair}
 use Rattle.ppp_packet.specs.PacketOf.{packet_in}
@@ -16,10 +12,10 @@ use Rattle.ppp_bundle.specs.declared.live.IpCall.TheVariants.{ComesUp, Opens, Ti
 use Rattle.ppp_bundle.specs.declared.live.Live.{Live}
 use Rattle.ppp_bundle.specs.declared.member.Member.{Member}
 use Rattle.ppp_bundle.specs.declared.wish.UnitWish.{UnitWish}
-use Rattle.ppp_bundle.specs.Closing.{connect_end, crowded_end, idle_end, idled, looked, unmade}
-use Rattle.ppp_bundle.specs.Frames.{brought, gave, heard, stranger}
+use Rattle.ppp_bundle.specs.Closing.{connect_end, crowded_end, idle_end, idled}
+use Rattle.ppp_bundle.specs.Frames.{gave, heard, stranger}
 use Rattle.ppp_bundle.specs.IpCalls.{called}
-use Rattle.ppp_bundle.specs.Member.{has_link, member, stay_of, without}
+use Rattle.ppp_bundle.specs.Member.{has_link, stay_of, without}
 use Rattle.ppp_bundle.specs.MayStand.{Stands, UnitStands, number_of}
 use Rattle.ppp_bundle.specs.ScriptParts.{shut}
 use Rattle.ppp_bundle.specs.State.{UnitState, members_of}
@@ -73,8 +69,8 @@ frames_stand : {S : Type 0} (secrets : SecretsPair) (link protocol : ℕ) (infor
 frames_stand secrets link protocol information u h =
     either_stands (has_link link (members_of u.live)) _ (stranger u)
     (either_stands (protocol == MULTILINK) u _ h
-      (either_stands (protocol == IPCP) (heard secrets (packet_in information) u) _ (heard_stands secrets (packet_in information) u h)
-        (either_stands (protocol == IP) (gave information u) u (gave_stands information u h) h)))
+    (either_stands (protocol == IPCP) (heard secrets (packet_in information) u) _ (heard_stands secrets (packet_in information) u h)
+    (either_stands (protocol == IP) (gave information u) u (gave_stands information u h) h)))
     (same_stands u (stranger u) h refl refl refl refl h.plain)
 
 ticks_stand : {S : Type 0} (secrets : SecretsPair) (now : ℕ) (u : UnitState S) → UnitStands u → UnitStands (ticked_unit secrets now u)
@@ -82,7 +78,7 @@ ticks_stand {S = S} secrets now u h =
     let v : UnitState S = called secrets Ticks (timed now u) in
     let w : UnitState S = idled v in
     closed_if_stands (connect_end w.time w.live) w (closed_if_stands (idle_end v.time v.live) v
-      (called_stands secrets Ticks u.live (timed now u) refl (same_stands u (timed now u) h refl refl refl refl h.plain)))
+    (called_stands secrets Ticks u.live (timed now u) refl (same_stands u (timed now u) h refl refl refl refl h.plain)))
 
 event_stands : {S : Type 0} (secrets : SecretsPair) (event : BundleEvent S) (u : UnitState S) (o : Option Live) → u.live ≡ o → IsPlainEvent event → MayCome event u → UnitStands u → UnitStands (after_event secrets event [] u)
 event_stands secrets (Make number maker wish mrru allow) u o e plain may h = made_stand secrets number maker wish mrru allow u plain may h

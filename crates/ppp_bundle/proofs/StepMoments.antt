@@ -116,7 +116,7 @@ second {S = S} terms past counts secrets link mru c u plain none did calm = by_c
     by_case : Mid terms (Calls c ∷ Enters link mru ∷ past) (by_itself comes_up ∷ []) u ⊎ Over terms (Calls c ∷ Enters link mru ∷ past) u → Does terms past (Enters link mru ∷ []) counts (called secrets ComesUp u)
     by_case (inl m) =
         let d = call_on terms (Calls c ∷ Enters link mru ∷ []) past counts secrets ComesUp (by_itself comes_up ∷ []) [] u plain m refl
-          (λ f. absurd (let h : Some (record { link = link; mru = mru }) ≡ None = f in cc)) (λ h. refl) did.flows in
+        (λ f. absurd (let h : Some (record { link = link; mru = mru }) ≡ None = f in cc)) (λ h. refl) did.flows in
         record {
           since = Calls (call_made secrets u.time ComesUp m.l) ∷ Calls c ∷ Enters link mru ∷ [];
           own_is = refl;
@@ -141,14 +141,14 @@ does_enter {S = S} terms past secrets link stay mru u plain m e calm sent given 
       target = m.target;
     } in
     let flows : Flows terms (Enters link mru ∷ []) past u.counts u1 = flows_first terms (Enters link mru) past u.counts u1
-      (sent ∙ nothing_whole (entered_in past)) (given ∙ nothing_of (is_up_in terms past)) refl in
+    (sent ∙ nothing_whole (entered_in past)) (given ∙ nothing_of (is_up_in terms past)) refl in
     let calm1 : Calm u1 = record {
       idle = sym (ap (λ (o : Option Live). idle_end u.time o) m.live) ∙ calm.idle;
       connect = sym (ap (λ (o : Option Live). connect_end u.time o) m.live) ∙ calm.connect;
     } in
     let d = call_on terms (Enters link mru ∷ []) past u.counts secrets Opens (by_itself opens ∷ by_itself comes_up ∷ []) (by_itself comes_up ∷ []) u1 plain m1 refl
-      (λ f. absurd (let h : Some (record { link = link; mru = mru }) ≡ None = f in cc))
-      (λ h. absurd (let g : true ≡ false = sym h ∙ opens_quietly terms.wish.ip m.l.ipcp (around_of secrets m1.l) u.time (m.reached.initial none) in cc)) flows in
+    (λ f. absurd (let h : Some (record { link = link; mru = mru }) ≡ None = f in cc))
+    (λ h. absurd (let g : true ≡ false = sym h ∙ opens_quietly terms.wish.ip m.l.ipcp (around_of secrets m1.l) u.time (m.reached.initial none) in cc)) flows in
     subst (λ (v : UnitState S). Does terms past (Enters link mru ∷ []) u.counts v) (sym (entered_is secrets link stay mru m.l u m.live e))
     (second terms past u.counts secrets link mru (call_made secrets u1.time Opens m1.l) (called secrets Opens u1) plain none d (calm_on secrets Opens m1.l u1 refl (m1.reached.mrru ∙ plain) calm1))
 
@@ -237,9 +237,9 @@ does_tick {S = S} terms past secrets now u plain m sent given =
       target = m.target;
     } in
     let flows : Flows terms (Passes u1.time ∷ []) past u.counts u1 = flows_first terms (Passes u1.time) past u.counts u1
-      (sent ∙ nothing_whole (entered_in past)) (given ∙ nothing_of (is_up_in terms past)) refl in
+    (sent ∙ nothing_whole (entered_in past)) (given ∙ nothing_of (is_up_in terms past)) refl in
     let d = call_on terms (Passes u1.time ∷ []) past u.counts secrets Ticks (ticks ∷ []) [] u1 plain m1 refl
-      (λ f. ticks_quietly terms.wish.ip m.l.ipcp (around_of secrets m.l) u1.time (m.reached.initial f)) (λ h. refl) flows in
+    (λ f. ticks_quietly terms.wish.ip m.l.ipcp (around_of secrets m.l) u1.time (m.reached.initial f)) (λ h. refl) flows in
     let v : UnitState S = called secrets Ticks u1 in
     let c = call_made secrets u1.time Ticks m.l in
     let looks = limits_look terms (Calls c ∷ Passes u1.time ∷ past) v plain (either_of terms (Calls c ∷ Passes u1.time ∷ past) [] v d.stands) in

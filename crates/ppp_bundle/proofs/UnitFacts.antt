@@ -1,5 +1,5 @@
 -- What stays so of a unit stays so by a step, and is so from the start.
-use Rattle.std.proofs.Common.{◌≡◌, Option, None, [], refl, sym, subst, arith}
+use Rattle.std.proofs.Common.{◌≡◌, None, [], refl, sym, subst, arith}
 use Rattle.std.specs.Prelude.{IfSome}
 use Rattle.ppp_base.specs.declared.hook_target.HookTarget.TheVariants.{Unit as OfUnit}
 use Rattle.ppp_base.specs.declared.stepped.Stepped.{Stepped}

@@ -8,6 +8,6 @@ returns-in-Taken-clause-counts g c t f counts =
     let i = c.self.inside in
     moved_counts g.S.Spawner.tries g.S.Spawner.faults t f 20 _ c.look.new.self.scripts c.look.ensures.goes.moves
     (c.in-Taken.ensures.counts t f
-      (event_counts g.S.Spawner.tries g.S.Spawner.faults t f c.args.event c.args.self.now
-        (record { unit = i.unit; time = i.time; scripts = i.scripts; live = i.live; gather = i.gather; sent = i.sent; given = i.given; ended = None; counts = i.counts })
-        (ap (λ (u : UnitState _). u.scripts.machine) (sym c.self.view_is)) counts))
+    (event_counts g.S.Spawner.tries g.S.Spawner.faults t f c.args.event c.args.self.now
+    (record { unit = i.unit; time = i.time; scripts = i.scripts; live = i.live; gather = i.gather; sent = i.sent; given = i.given; ended = None; counts = i.counts })
+    (ap (λ (u : UnitState _). u.scripts.machine) (sym c.self.view_is)) counts))
