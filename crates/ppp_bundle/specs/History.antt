@@ -270,11 +270,6 @@ opened_in terms [] = 0
 opened_in terms (Calls call ∷ past) = if comes_to_up terms call past then call.happened.now else opened_in terms past
 opened_in terms (_ ∷ past) = opened_in terms past
 
--- the calls by which IPCP last came to Opened: what it agreed on then is what the scripts are told
-abbrev pub opening_calls : UnitWish → List IpcpCall → List IpcpCall
-opening_calls wish [] = []
-opening_calls wish (call ∷ calls) = if is_up_after wish (call ∷ calls) && not (is_up_after wish calls) then call ∷ calls else opening_calls wish calls
-
 -- when the last datagram passed, or IPCP came to Opened after it
 abbrev pub passed_in : Terms → List Moment → ℕ
 passed_in terms [] = 0
