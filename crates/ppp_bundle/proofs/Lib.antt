@@ -6,3 +6,17 @@ pub mod PlainFacts
 pub mod MemberFacts
 pub mod ReplayFacts
 pub mod LogFacts
+pub mod CountFacts
+pub mod CallMoments
+pub mod CloseMoments
+pub mod MidMoments
+pub mod EventMoments
+pub mod StepMoments
+pub mod PassMoments
+pub mod BringMoments
+pub mod LeaveMoments
+pub mod GoesFacts
+pub mod StandFacts
+pub mod StandMoments
+pub mod StandSteps
+pub mod UnitFacts

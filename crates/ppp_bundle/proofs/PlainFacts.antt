@@ -20,7 +20,7 @@ without_one : (b : Bool) (m : Member) (stay : ℕ) → cond b (Some m.stay) None
 without_one true m stay e = refl
 without_one false m stay e = absurd (cc e)
 
-alone : (members : List Member) (link stay : ℕ) → length members ≤ 1 → stay_of link members ≡ Some stay → without link members ≡ []
+pub alone : (members : List Member) (link stay : ℕ) → length members ≤ 1 → stay_of link members ≡ Some stay → without link members ≡ []
 alone [] link stay few e = refl
 alone (m ∷ []) link stay few e = rw (without_one (is_link link m) m stay e) refl
 alone (m ∷ n ∷ members) link stay few e = absurd (omega (arith, few))

@@ -24,7 +24,7 @@ same_out wish past call now one other a b =
     a.packets ∙ ap (λ x. sends_on (ip_rules wish) past now call x one.acts) e ∙ ap (λ x. sends_on (ip_rules wish) past now call other.event x) f ∙ sym b.packets in
     ap (λ x. record one { event = x }) e ∙ ap (λ x. record one { event = other.event; acts = x }) f ∙ ap (λ x. record other { packets = x }) g
 
-exact : (a : Around) (now : ℕ) (call : IpCall) (i : Ipcp) → Calls (call_of a call) now i (ip_left a now call i) (ip_tells a now call i)
+pub exact : (a : Around) (now : ℕ) (call : IpCall) (i : Ipcp) → Calls (call_of a call) now i (ip_left a now call i) (ip_tells a now call i)
 exact a now Opens i = λ wish past s. alone_stands wish past now opens i _ _ refl refl s
 exact a now ComesUp i = λ wish past s. alone_stands wish past now comes_up i _ _ refl refl s
 exact a now (Hears p) i = λ wish past s. calls_heard wish past now p a i _ _ refl refl s

@@ -13,7 +13,7 @@ use Rattle.ppp_bundle.specs.declared.live.Live.{Live}
 use Rattle.ppp_bundle.specs.declared.outbox.Ending.{Ending}
 use Rattle.ppp_bundle.specs.Closing.{closed_if, crowded_end, looked}
 use Rattle.ppp_bundle.specs.Replay.{since_made}
-use Rattle.ppp_bundle.specs.Sound.{Agrees, Goes, IsGoing, IsSound, Moves, owed, owed_by}
+use Rattle.ppp_bundle.specs.Sound.{Adds, Agrees, Goes, IsGoing, IsSound, owed, owed_by}
 use Rattle.ppp_bundle.specs.State.{UnitState, is_open}
 use Rattle.ppp_bundle.specs.UnitPart.{script_over}
 
@@ -141,7 +141,7 @@ owed_more None last greatest starts ends not_started more e f = rw (← f) (owed
 owed_more (Some o) last greatest starts ends not_started more e f = absurd (let g : true ≡ false = e in cc)
 
 over_by : {S : Type 0} (o : Option Live) (done : DoneState S) (old new : UnitState S) → old.live ≡ o → new ≡ script_over done old
-    → IsSound old → Agrees new → Moves 2 old.scripts new.scripts → old.scripts.machine.facts.ends + 1 ≡ old.scripts.machine.facts.starts
+    → IsSound old → Agrees new → Adds 2 old.scripts new.scripts → old.scripts.machine.facts.ends + 1 ≡ old.scripts.machine.facts.starts
     → is_some old.scripts.machine.facts.now_open ≡ is_open old.live → IsGoing new
 over_by {S = S} None done old new e is sound agrees moves ran shut =
     let f : HookFacts = old.scripts.machine.facts in
@@ -171,6 +171,6 @@ over_by {S = S} (Some l) done old new e is sound agrees moves ran shut =
     }
 
 pub over_going : {S : Type 0} (done : DoneState S) (old new : UnitState S) → new ≡ script_over done old
-    → IsSound old → Agrees new → Moves 2 old.scripts new.scripts → old.scripts.machine.facts.ends + 1 ≡ old.scripts.machine.facts.starts
+    → IsSound old → Agrees new → Adds 2 old.scripts new.scripts → old.scripts.machine.facts.ends + 1 ≡ old.scripts.machine.facts.starts
     → is_some old.scripts.machine.facts.now_open ≡ is_open old.live → IsGoing new
 over_going done old new is sound agrees moves ran shut = over_by old.live done old new refl is sound agrees moves ran shut

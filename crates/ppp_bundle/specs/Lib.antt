@@ -19,4 +19,7 @@ pub mod Frames
 pub mod Gathers
 pub mod UnitPart
 pub mod Sound
+pub mod History
+pub mod MayStand
+pub mod Lives
 pub mod Rows

@@ -15,12 +15,23 @@ use Rattle.ppp_bundle.specs.Replay.{LogSays, bundle_in, since_made, stay_in}
 use Rattle.ppp_bundle.specs.State.{UnitState, is_open, members_of}
 
 -- So many marks at most were added, and no bundle was made: each of them is one of those since the last was made.
+pub record Adds {S : Type 0} (most : ℕ) (old new : ScriptLogState S) : Type 0 where
+  pub target : new.machine.target ≡ old.machine.target
+  pub few : length new.log.past ≤ length old.log.past + most
+  pub longer : length old.log.past ≤ length new.log.past
+  pub limit : new.log.limit ≡ old.log.limit
+  pub since : since_made new.log.past + length old.log.past ≡ since_made old.log.past + length new.log.past
+
+-- And no script ended: the spawner is where it was, with the same counts.
 pub record Moves {S : Type 0} (most : ℕ) (old new : ScriptLogState S) : Type 0 where
   pub target : new.machine.target ≡ old.machine.target
   pub few : length new.log.past ≤ length old.log.past + most
   pub longer : length old.log.past ≤ length new.log.past
   pub limit : new.log.limit ≡ old.log.limit
   pub since : since_made new.log.past + length old.log.past ≡ since_made old.log.past + length new.log.past
+  pub spawner : new.machine.spawner ≡ old.machine.spawner
+  pub ends : new.machine.facts.ends ≡ old.machine.facts.ends
+  pub not_started : new.machine.facts.not_started ≡ old.machine.facts.not_started
 
 -- what a log says of whether IP is open
 abbrev pub is_open_in : {S : Type 0} → ScriptLogState S → Option ℕ

@@ -3,6 +3,7 @@ use Rattle.std.specs.Prelude.{ℕ, ◌+◌, ◌≡◌, ◌≤◌, ◌^◌, ◌==
 use Rattle.ppp_base.specs.declared.allow.Allow.{Allow}
 use Rattle.ppp_base.specs.declared.protocol.TheConstants.{MULTILINK}
 use Rattle.ppp_base.specs.Mrru.{MrruPair}
+use Rattle.ppp_hooks.specs.HookCounts.{DoneCounts, MachineCounts}
 use Rattle.ppp_hooks.specs.HookState.{DoneState}
 use Rattle.ppp_ipcp.specs.Session.{session_after}
 use Rattle.ppp_mark.specs.Log.{room_of}
@@ -183,3 +184,13 @@ IsPlainEvent (Frame link protocol information) = ⊤
 IsPlainEvent (Datagram datagram) = ⊤
 IsPlainEvent (Tick now) = ⊤
 IsPlainEvent (HookOver done) = ⊤
+
+-- The counts with which a spawner was handed in travel with it: while it isn't in the machine they come back with the script's end.
+abbrev pub EventCounts : {S : Type 0} → (tries faults : S → ℕ) → ℕ → ℕ → BundleEvent S → UnitState S → Type 0
+EventCounts tries faults t f (HookOver done) u = DoneCounts tries faults t f done
+EventCounts tries faults t f (Make number maker wish mrru allow) u = MachineCounts tries faults t f u.scripts.machine
+EventCounts tries faults t f (In link stay mru) u = MachineCounts tries faults t f u.scripts.machine
+EventCounts tries faults t f (Out link stay) u = MachineCounts tries faults t f u.scripts.machine
+EventCounts tries faults t f (Frame link protocol information) u = MachineCounts tries faults t f u.scripts.machine
+EventCounts tries faults t f (Datagram datagram) u = MachineCounts tries faults t f u.scripts.machine
+EventCounts tries faults t f (Tick now) u = MachineCounts tries faults t f u.scripts.machine

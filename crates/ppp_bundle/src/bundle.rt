@@ -1,16 +1,19 @@
 ghost use Rattle.std.specs.Prelude.{◌≡◌, ℕ, ◌+◌, ◌<◌, ◌≤◌, ◌^◌, ◌↔◌, [], ◌∷◌, Some, None, IfSome, IfOk, IfNone, IsSome, OnSome, MatchOption, option_map};
 ghost use Rattle.ppp_base.specs.declared.hook_target.HookTarget.TheVariants.{Unit as OfUnit};
 ghost use Rattle.ppp_base.specs.Stepped.{IsTaken, OnTaken, IfStale};
+ghost use Rattle.ppp_hooks.specs.HookCounts.{JobCounts, MachineCounts};
 ghost use Rattle.ppp_hooks.specs.HookFacts.{no_facts};
-ghost use Rattle.ppp_hooks.specs.HookPast.{ends_in, running_in, starts_in};
+ghost use Rattle.ppp_hooks.specs.HookPast.{ends_in, not_started_in, running_in, starts_in};
 ghost use Rattle.ppp_hooks.specs.HookWords.{words_of_start};
 ghost use Rattle.ppp_mark.specs.Log.{no_marks};
 ghost use Rattle.ppp_mark.specs.Scripts.{LogLaw, LogSettled, said_in};
 ghost use Rattle.ppp_bundle.specs.Gathers.{Gathered};
-ghost use Rattle.ppp_bundle.specs.Replay.{Replay};
+ghost use Rattle.ppp_bundle.specs.Lives.{GoesOnAll, HasBegun, HasHistory};
+ghost use Rattle.ppp_bundle.specs.MayStand.{AllMayStand};
+ghost use Rattle.ppp_bundle.specs.Replay.{Replay, since_made};
 ghost use Rattle.ppp_bundle.specs.Sound.{IsGoing, IsSound};
 ghost use Rattle.ppp_bundle.specs.State.{is_open};
-ghost use Rattle.ppp_bundle.specs.UnitPart.{IsFresh, IsPlainEvent, MayCome, UnitPart, after_event, after_step};
+ghost use Rattle.ppp_bundle.specs.UnitPart.{EventCounts, IsFresh, IsPlainEvent, MayCome, UnitPart, after_event, after_step};
 
 use crate::event::BundleEvent;
 use crate::outbox::{BundleEnd, GivenList, Sending, SentList, UnitCounts};
@@ -31,15 +34,14 @@ pub struct Bundle<S: Spawner> {
 }
 
 impl<S: Spawner> Model for Bundle<S> {
-    ghost use Rattle.ppp_bundle.specs.Replay.{Replay};
-    ghost use Rattle.ppp_bundle.specs.Sound.{IsSound};
+    ghost use Rattle.ppp_bundle.specs.Lives.{IsUnit};
     ghost use Rattle.ppp_bundle.specs.State.{UnitState};
 
     ghost Value = { UnitState S };
 
     ghost view = { λ b. b.core };
 
-    ghost invariant = { λ b. IsSound b.core };
+    ghost invariant = { λ b. IsUnit b.core };
 }
 
 impl<S: Spawner> UnitCore<S> {
@@ -52,6 +54,7 @@ impl<S: Spawner> UnitCore<S> {
         requires given { self.old.given ≡ [] }
         ensures taken { IsTaken result ↔ IsFresh event self.old }
         ensures part { OnTaken result (self.new ≡ after_step secrets.now event (record { gather = self.old.gather; packets = [] }) self.old) }
+        ensures counts { (t f : ℕ) → EventCounts S.tries S.faults t f event self.old → OnTaken result (MachineCounts S.tries S.faults t f self.new.scripts.machine) }
         ensures stale { IfStale result (λ back. (back ≡ event) × (self.new ≡ self.old)) }
         ensures sound { IsSound self.new }
     {
@@ -70,7 +73,7 @@ impl<S: Spawner> UnitCore<S> {
     }
 
     // What an event does.
-    #[tactic(auto, using(crate::proofs::SoundFacts::going, crate::proofs::SoundFacts::over_going, crate::proofs::PlainFacts::last_out))]
+    #[tactic(auto, using(crate::proofs::SoundFacts::going, crate::proofs::SoundFacts::over_going, crate::proofs::PlainFacts::last_out, crate::proofs::CountFacts::moved_counts))]
     fn apply(&mut self, event: BundleEvent<S>, secrets: &SecretsPair) -> Stepped<BundleEvent<S>>
         requires sound { IsSound self.old }
         requires may { MayCome event self.old }
@@ -80,6 +83,7 @@ impl<S: Spawner> UnitCore<S> {
         ensures taken { IsTaken result ↔ IsFresh event self.old }
         ensures new { OnTaken result (self.new ≡ after_event secrets.now event [] self.old) }
         ensures going { OnTaken result (IsGoing self.new) }
+        ensures counts { (t f : ℕ) → EventCounts S.tries S.faults t f event self.old → OnTaken result (MachineCounts S.tries S.faults t f self.new.scripts.machine) }
         ensures stale { IfStale result (λ back. (back ≡ event) × (self.new ≡ self.old)) }
     {
         match event {
@@ -112,6 +116,7 @@ impl<S: Spawner> UnitCore<S> {
 
 impl<S: Spawner> Bundle<S> {
     /// A unit without a bundle, whose log has room for so many marks. All memory that is ever needed is taken here.
+    #[tactic(auto, using(crate::proofs::UnitFacts::new_stands))]
     pub fn new(alloc: Global, unit: Unit, spawner: S, loglimit: u32) -> Result<Bundle<S>, NoMemory>
         requires limit { (4096 ≤ loglimit) × (loglimit ≤ 1048576) }
         requires tries { S.tries spawner < 2 ^ 63 }
@@ -120,6 +125,7 @@ impl<S: Spawner> Bundle<S> {
         ensures time { IfOk result (λ b. b.time ≡ 0) }
         ensures scripts { IfOk result (λ b. b.scripts ≡ record { machine = record { target = OfUnit unit; facts = no_facts; spawner = Some spawner }; log = no_marks loglimit }) }
         ensures live { IfOk result (λ b. b.live ≡ None) }
+        ensures counts_from { IfOk result (λ b. MachineCounts S.tries S.faults (S.tries spawner) (S.faults spawner) b.scripts.machine) }
         ensures waits { IfOk result (λ b. (b.sent ≡ []) × (b.given ≡ []) × (b.ended ≡ None)) }
         ensures counts { IfOk result (λ b. b.counts ≡ record { not_open = 0; stranger = 0; too_big = 0; bad_inner = 0 }) }
     {
@@ -147,7 +153,7 @@ impl<S: Spawner> Bundle<S> {
 
     /// One event. A script's end that isn't the running job's is stale: it comes back, and nothing changes. So far no
     /// multilink bundle may be made. It takes no memory.
-    #[tactic(auto, using(crate::proofs::PlainFacts::plain_part))]
+    #[tactic(auto, using(crate::proofs::PlainFacts::plain_part, crate::proofs::UnitFacts::unit_after, crate::proofs::GoesFacts::goes_after, crate::proofs::GoesFacts::begun_after))]
     pub fn step(&mut self, event: BundleEvent<S>, secrets: &SecretsPair) -> Stepped<BundleEvent<S>>
         requires may { MayCome event self.old }
         requires plain { IsPlainEvent event }
@@ -155,6 +161,9 @@ impl<S: Spawner> Bundle<S> {
         requires given { self.old.given ≡ [] }
         ensures taken { IsTaken result ↔ IsFresh event self.old }
         ensures part { OnTaken result (UnitPart secrets.now event self.old self.new) }
+        ensures begun { OnTaken result (HasBegun event self.old self.new) }
+        ensures goes { OnTaken result (GoesOnAll secrets.now event self.old self.new) }
+        ensures counts { (t f : ℕ) → EventCounts S.tries S.faults t f event self.old → OnTaken result (MachineCounts S.tries S.faults t f self.new.scripts.machine) }
         ensures stale { IfStale result (λ back. (back ≡ event) × (self.new ≡ self.old)) }
     {
         self.core.step(event, secrets)
@@ -163,10 +172,13 @@ impl<S: Spawner> Bundle<S> {
     /// The script that was started, if its job hasn't been taken. The spawner goes with it. It takes no memory.
     pub fn take_job(&mut self) -> Option<HookJob<S>>
         ensures some { IsSome result ↔ (IsSome self.old.scripts.machine.spawner × (ends_in (said_in self.old.scripts.log.past) < starts_in (said_in self.old.scripts.log.past))) }
+        ensures job { IfSome result (λ job. (job.target ≡ self.old.scripts.machine.target) × (job.number ≡ starts_in (said_in self.old.scripts.log.past))
+            × (job.not_started ≡ not_started_in (said_in self.old.scripts.log.past))) }
         ensures words { IfSome result (λ job. words_of_start self.old.scripts.machine.target self.old.scripts.machine.facts.last ≡ Some job.words) }
         ensures spawner { IfSome result (λ job. self.old.scripts.machine.spawner ≡ Some job.spawner) }
         ensures taken { OnSome result (self.new ≡ record self.old { scripts = record self.old.scripts { machine = record self.old.scripts.machine { spawner = None } } }) }
         ensures none { IfNone result (self.new ≡ self.old) }
+        ensures counts { (t f : ℕ) → MachineCounts S.tries S.faults t f self.old.scripts.machine → IfSome result (JobCounts S.tries S.faults t f) }
     {
         self.core.scripts.take_job()
     }
@@ -203,6 +215,8 @@ impl<S: Spawner> Bundle<S> {
         ensures law { LogLaw 0 self.now.scripts.log.past }
         ensures settled { LogSettled self.now.scripts.log.past (is_open self.now.live) }
         ensures replay { Replay self.now self.now.scripts.log.past }
+        ensures marks { AllMayStand self.now.scripts.log.past }
+        ensures history { IfSome self.now.live (HasHistory (since_made self.now.scripts.log.past) self.now.time self.now.gather) }
         ensures room { IfSome self.now.live (λ l. l.made_at + 1024 ≤ self.now.scripts.log.limit) }
     {
         self.core.scripts.log()

@@ -1,6 +1,7 @@
 // How a unit's scripts and its log go on together.
 ghost use Rattle.std.specs.Prelude.{◌≡◌, ℕ, ◌+◌, ◌≤◌, ◌<◌, ◌^◌, ◌↔◌, true, false, None, is_some, IsOk, OnOk, OnErr, IfErr, length, if◌then◌else◌};
 ghost use Rattle.ppp_base.specs.declared.hook_target.HookTarget.TheVariants.{Unit as OfUnit};
+ghost use Rattle.ppp_hooks.specs.HookCounts.{DoneCounts, MachineCounts};
 ghost use Rattle.ppp_mark.specs.Log.{room_of};
 ghost use Rattle.ppp_mark.specs.ScriptLog.{IsRunningJob};
 ghost use Rattle.ppp_mark.specs.Marks.{unmade_mark};
@@ -11,7 +12,7 @@ ghost use Rattle.ppp_bundle.specs.Closing.{outs, unmade};
 ghost use Rattle.ppp_bundle.specs.Member.{has_link, stay_of};
 ghost use Rattle.ppp_bundle.specs.Replay.{LogSays, SaysSame, bundle_in, stay_in};
 ghost use Rattle.ppp_bundle.specs.ScriptParts.{marked, opened, over, shut};
-ghost use Rattle.ppp_bundle.specs.Sound.{Moves, is_open_in};
+ghost use Rattle.ppp_bundle.specs.Sound.{Adds, Moves, is_open_in};
 
 use crate::live::Live;
 use crate::member::Member;
@@ -76,8 +77,9 @@ pub(crate) fn end_script<S: Spawner>(
     ensures new { OnOk result (scripts.new ≡ over done time scripts.old) }
     ensures is_open { OnOk result (is_open_in scripts.new ≡ is_open_in scripts.old) }
     ensures ran { OnOk result (scripts.old.machine.facts.ends + 1 ≡ scripts.old.machine.facts.starts) }
-    ensures moves { OnOk result (Moves 2 scripts.old scripts.new) }
+    ensures moves { OnOk result (Adds 2 scripts.old scripts.new) }
     ensures now { OnOk result (is_some scripts.old.machine.facts.now_open ≡ is_some (is_open_in scripts.old)) }
+    ensures counts { (t f : ℕ) → DoneCounts S.tries S.faults t f done → OnOk result (MachineCounts S.tries S.faults t f scripts.new.machine) }
     ensures unchanged { OnErr result (scripts.new ≡ scripts.old) }
     ensures given_back { IfErr result (λ back. back ≡ done) }
     ensures says { OnOk result (LogSays scripts.new) }

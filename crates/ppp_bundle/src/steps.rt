@@ -1,12 +1,13 @@
 // What each event does to a unit.
 ghost use Rattle.std.specs.Prelude.{◌≡◌, ◌+◌, ◌≤◌, ◌<◌, ◌^◌, [], ◌∷◌, true, false, Some, None, IfSome, IsSome, ℕ, is_some, length, IsOk, OnOk, OnErr, IfErr, ◌↔◌};
+ghost use Rattle.ppp_hooks.specs.HookCounts.{DoneCounts, MachineCounts};
 ghost use Rattle.ppp_mark.specs.Log.{room_of};
 ghost use Rattle.ppp_mark.specs.ScriptLog.{IsRunningJob};
 ghost use Rattle.ppp_bundle.specs.Closing.{connect_end, crowded_end, idle_end, looked};
 ghost use Rattle.ppp_bundle.specs.Frames.{brought, carried, gave, heard};
 ghost use Rattle.ppp_bundle.specs.IpCalls.{called};
 ghost use Rattle.ppp_bundle.specs.Member.{has_link, member, without};
-ghost use Rattle.ppp_bundle.specs.Sound.{Agrees, Goes, HasRoom, IsGoing, IsSound, Moves};
+ghost use Rattle.ppp_bundle.specs.Sound.{Agrees, Goes, Adds, HasRoom, IsGoing, IsSound};
 ghost use Rattle.ppp_bundle.specs.State.{is_open, members_of, most_to_peer};
 ghost use Rattle.ppp_bundle.specs.UnitPart.{begun, entered, framed, left_of, made, script_over, ticked_unit};
 ghost use Rattle.ppp_packet.specs.PacketOf.{packet_in};
@@ -65,6 +66,7 @@ impl<S: Spawner> UnitCore<S> {
     pub(crate) fn look(&mut self)
         requires going { IsGoing self.old }
         ensures new { self.new ≡ looked self.old }
+        ensures goes { Goes 20 self.old self.new }
         ensures sound { IsSound self.new }
         ensures sent { self.new.sent ≡ self.old.sent }
         ensures given { self.new.given ≡ self.old.given }
@@ -122,6 +124,7 @@ impl<S: Spawner> UnitCore<S> {
         requires room { 1024 ≤ room_of self.old.scripts.log }
         requires plain { mrru ≡ None }
         ensures new { self.new ≡ made number maker wish mrru allow self.old }
+        ensures machine { self.new.scripts.machine ≡ self.old.scripts.machine }
         ensures going { IsGoing self.new }
     {
         let made_at = self.scripts.log().count();
@@ -279,8 +282,9 @@ impl<S: Spawner> UnitCore<S> {
         ensures new { OnOk result (self.new ≡ script_over done self.old) }
         ensures agrees { Agrees self.new }
         ensures ran { OnOk result (self.old.scripts.machine.facts.ends + 1 ≡ self.old.scripts.machine.facts.starts) }
-        ensures moves { OnOk result (Moves 2 self.old.scripts self.new.scripts) }
+        ensures moves { OnOk result (Adds 2 self.old.scripts self.new.scripts) }
         ensures shut { OnOk result (is_some self.old.scripts.machine.facts.now_open ≡ is_open self.old.live) }
+        ensures counts { (t f : ℕ) → DoneCounts S.tries S.faults t f done → OnOk result (MachineCounts S.tries S.faults t f self.new.scripts.machine) }
         ensures unchanged { OnErr result (self.new ≡ self.old) }
         ensures given_back { IfErr result (λ back. back ≡ done) }
     {

@@ -189,6 +189,7 @@ impl<S: Spawner> UnitCore<S> {
         requires says { LogSays self.old.scripts }
         requires session { IfSome self.old.live SomeSession }
         ensures new { self.new ≡ went_up_of self.old.live self.old }
+        ensures moves { Moves 4 self.old.scripts self.new.scripts }
         ensures says { LogSays self.new.scripts }
         ensures same { SaysSame self.old.scripts.log.past self.new.scripts.log.past }
     {
