@@ -5,4 +5,5 @@ pub mod Numbers
 pub mod Parts
 pub mod Posts
 pub mod RandomWords
+pub mod RingAfter
 pub mod Stepped

@@ -1,4 +1,4 @@
-ghost use Rattle.std.specs.Prelude.{◌≡◌, ℕ, [], ◌++◌, List, Option, Some, None, IfNone, option_to_list};
+ghost use Rattle.std.specs.Prelude.{◌≡◌, ℕ, [], ◌++◌, List, Option, Some, None, IfNone, OnSome, option_to_list};
 ghost use Rattle.ppp_base.specs.Stepped.{OnTaken, IfStale};
 
 use crate::link_id::LinkId;
@@ -19,6 +19,9 @@ pub trait Ends {
     /// The posts to the table that wait, the oldest first.
     ghost waiting: { Self → List UpPost };
 
+    /// What it becomes when the oldest of them is taken.
+    ghost posted: { Self → Self };
+
     /// Its number.
     fn id(&self) -> LinkId
         ensures { result ≡ number self.now };
@@ -27,6 +30,8 @@ pub trait Ends {
     fn take_up(&mut self) -> Option<UpPost>
         ensures first { waiting self.old ≡ option_to_list result ++ waiting self.new }
         ensures none { IfNone result (waiting self.old ≡ []) }
+        ensures posted { OnSome result (self.new ≡ posted self.old) }
+        ensures none_left { IfNone result (self.new ≡ self.old) }
         ensures same { number self.new ≡ number self.old };
 
     /// Hands it a post of the table. One that comes back is of another stay, and has changed nothing.

@@ -2,7 +2,7 @@ ghost use Rattle.std.specs.Prelude.{◌≡◌, ℕ, ◌+◌, ◌^◌, ◌<◌, �
 ghost use Rattle.ppp_hooks.specs.HookCounts.{MachineCounts, JobCounts, DoneCounts};
 ghost use Rattle.ppp_hooks.specs.HookFacts.{HasArgs, no_facts, opening_number, settled, start_mark, with_closed, with_end, with_open};
 ghost use Rattle.ppp_hooks.specs.HookMark.{Opened, Closed, Ended};
-ghost use Rattle.ppp_hooks.specs.HookPast.{ends_in, last_in, not_started_in, open_in, running_in, starts_in};
+ghost use Rattle.ppp_hooks.specs.HookPast.{ends_in, greatest_in, last_in, not_started_in, open_in, running_in, starts_in};
 ghost use Rattle.ppp_hooks.specs.HookRule.{with_due};
 ghost use Rattle.ppp_hooks.specs.HookRuns.{GivenLast, IsFaithful, MachineTells};
 ghost use Rattle.ppp_hooks.specs.HookState.{JobState};
@@ -330,6 +330,15 @@ impl<S: Spawner> ScriptLog<S> {
         ensures stands { IsKept self.now.machine self.now.log }
     {
         self.machine.now_open()
+    }
+
+    /// How many openings there were so far.
+    pub fn openings(&self) -> u32
+        ensures value { result ≡ self.now.machine.facts.greatest }
+        ensures of_past { result ≡ greatest_in (said_in self.now.log.past) }
+        ensures stands { IsKept self.now.machine self.now.log }
+    {
+        self.machine.greatest()
     }
 
     /// The number of the job that runs, from its start to its end.

@@ -5,8 +5,9 @@ use Rattle.ppp_base.specs.declared.signal_word.SignalWord.{SignalWord}
 use Rattle.ppp_outside.specs.Calls.{is_listed}
 use Rattle.ppp_outside.specs.Control.{HearsWord, failed, is_end, is_signal}
 use Rattle.ppp_outside.specs.Counts.{counted}
+use Rattle.ppp_outside.specs.SignalNames.{signal_of}
 use Rattle.ppp_outside.specs.declared.control.Word.TheVariants as word
-use Rattle.ppp_memory.specs.Control.{ControlInMemory, after_next, answer_of, heard_as, signal_of, signal_or_quiet, state_of}
+use Rattle.ppp_memory.specs.Control.{ControlInMemory, after_next, answer_of, heard_as, signal_or_quiet, state_of}
 
 -- a word that names this signal, or none
 hears_text : (named : Option SignalWord) (text : List ℕ) (rest : List (List ℕ)) (signals ends faults : ℕ) → HearsWord (record { left = Some (cons_option named (filter_map signal_of rest)); signals = signals; ends = ends; faults = faults }) (record { left = Some (filter_map signal_of (if failed (signal_or_quiet named) then text ∷ rest else rest)); signals = counted (is_signal (signal_or_quiet named)) signals; ends = counted (is_end (signal_or_quiet named)) ends; faults = counted (failed (signal_or_quiet named)) faults }) (signal_or_quiet named)

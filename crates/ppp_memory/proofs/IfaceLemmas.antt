@@ -4,15 +4,11 @@ use Rattle.std.specs.List.{cons_option}
 use Rattle.ppp_outside.specs.Calls.{is_listed}
 use Rattle.ppp_outside.specs.Counts.{counted}
 use Rattle.ppp_outside.specs.Iface.{TakesPacket, failed, is_packet}
+use Rattle.ppp_outside.specs.Messages.{IsFilled, packet_of}
 use Rattle.ppp_outside.specs.declared.iface.IfaceGot.{IfaceGot}
 use Rattle.ppp_outside.specs.declared.iface.IfaceGot.TheVariants as got
 use Rattle.ppp_outside.specs.declared.iface.UnitDatagram.{UnitDatagram}
-use Rattle.ppp_memory.specs.Iface.{IfaceInInMemory, after_take, answer_of, buffer_after, buffer_or, first_packet, packet_of, packet_or_quiet, state_of}
-
--- A packet has at least one octet.
-abbrev pub IsFilled : Option UnitDatagram → Type 0
-IsFilled None = Unit {0}
-IsFilled (Some packet) = 0 < length packet.datagram
+use Rattle.ppp_memory.specs.Iface.{IfaceInInMemory, after_take, answer_of, buffer_after, buffer_or, first_packet, packet_or_quiet, state_of}
 
 filled_if : (unit : ℕ) (octets : List ℕ) (fits : Bool) → IsFilled (if nat_lt unit 16 && (nat_lt 0 (length octets) && fits) then Some (record { unit = unit; datagram = octets }) else None)
 filled_if unit [] fits = elim (nat_lt unit 16) as (λ known. IsFilled (if known && (nat_lt 0 0 && fits) then Some (record { unit = unit; datagram = [] }) else None)) [ true ↦ tt | false ↦ tt ]

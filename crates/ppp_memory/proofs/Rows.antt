@@ -5,7 +5,8 @@ use Rattle.ppp_base.specs.declared.signal_word.SignalWord.TheVariants.{Hup, Usr2
 use Rattle.ppp_memory.specs.Clock.{ClockInMemory, after_reading, reading_of, state_of as clock_state_of}
 use Rattle.ppp_memory.specs.Control.{ControlInMemory, answer_of as word_of, after_next}
 use Rattle.ppp_memory.specs.Dialer.{is_refused}
-use Rattle.ppp_memory.specs.Iface.{IfaceInInMemory, answer_of as packet_answer, buffer_after, packet_of}
+use Rattle.ppp_memory.specs.Iface.{IfaceInInMemory, answer_of as packet_answer, buffer_after}
+use Rattle.ppp_outside.specs.Messages.{packet_of}
 use Rattle.ppp_memory.specs.Line.{LineInMemory, after_read, answer_of, buffer_with}
 use Rattle.ppp_memory.specs.declared.line.LineTurn.{LineTurn}
 use Rattle.ppp_memory.specs.declared.line.LineTurn.TheVariants as turn

@@ -6,27 +6,9 @@ use Rattle.ppp_base.specs.declared.signal_word.SignalWord.TheVariants.{Hup, Int,
 use Rattle.ppp_outside.specs.Calls.{is_listed}
 use Rattle.ppp_outside.specs.Control.{ControlState, failed, is_end, is_signal}
 use Rattle.ppp_outside.specs.Counts.{counted, raised}
+use Rattle.ppp_outside.specs.SignalNames.{signal_of}
 use Rattle.ppp_outside.specs.declared.control.Word.{Word}
 use Rattle.ppp_outside.specs.declared.control.Word.TheVariants as word
-
-abbrev pub is_text : List ℕ → List ℕ → Bool
-is_text text named = pointwise nat_eq text named
-
--- the signal that a word names
-abbrev pub signal_of : List ℕ → Option SignalWord
-signal_of text =
-    if is_text text (codes "HUP")
-    then Some Hup
-    else
-    if is_text text (codes "INT")
-    then Some Int
-    else
-    if is_text text (codes "TERM")
-    then Some Term
-    else
-    if is_text text (codes "USR1")
-    then Some Usr1
-    else if is_text text (codes "USR2") then Some Usr2 else None
 
 -- the words that are left, which calls are to fail, and the counts
 pub record ControlInMemory : Type 0 where

@@ -3,20 +3,12 @@ use Rattle.std.specs.Prelude.{ℕ, List, [], ◌∷◌, ◌++◌, Option, Some, 
 use Rattle.ppp_outside.specs.Calls.{is_listed}
 use Rattle.ppp_outside.specs.Counts.{counted, raised}
 use Rattle.ppp_outside.specs.Iface.{IfaceInState, IfaceOutState, failed, give_failed, is_packet, written_by}
+use Rattle.ppp_outside.specs.Messages.{packet_of}
 use Rattle.ppp_outside.specs.declared.iface.UnitDatagram.{UnitDatagram}
 use Rattle.ppp_outside.specs.declared.iface.IfaceGot.{IfaceGot}
 use Rattle.ppp_outside.specs.declared.iface.IfaceGot.TheVariants as got
 use Rattle.ppp_outside.specs.declared.iface.Gave.{Gave}
 use Rattle.ppp_outside.specs.declared.iface.Gave.TheVariants as gave
-
--- the packet of a message, an octet with the unit's number and the datagram: none for another unit, for no datagram octet, and
--- above 2,048 of them
-abbrev pub packet_of : List ℕ → Option UnitDatagram
-packet_of [] = None
-packet_of (unit ∷ octets) =
-    if nat_lt unit 16 && (nat_lt 0 (length octets) && nat_le (length octets) 2048)
-    then Some (record { unit = unit; datagram = octets })
-    else None
 
 -- the messages that are left, which calls are to fail, and the counts
 pub record IfaceInInMemory : Type 0 where

@@ -1,9 +1,9 @@
 ghost use Rattle.std.specs.Prelude.{◌≡◌, drop, if◌then◌else◌};
-ghost use Rattle.ppp_memory.specs.Control.{after_next, answer_of, counted_after, heard_as, signal_of, state_of};
+ghost use Rattle.ppp_memory.specs.Control.{after_next, answer_of, counted_after, heard_as, state_of};
 ghost use Rattle.ppp_outside.specs.Control.{HearsWord, failed};
 
-use ppp_base::{Name, SignalWord};
-use ppp_outside::{Control, Word};
+use ppp_base::Name;
+use ppp_outside::{signal_named, Control, Word};
 use std::marker::Model;
 
 /// A control in memory, which hears the words of a list. Some calls fail.
@@ -27,25 +27,6 @@ impl Model for MemoryControl {
     ghost view = { λ s. record { words = drop s.at s.words.items; failing = s.failing.items; calls = s.calls; signals = s.signals; ends = s.ends; faults = s.faults } };
 
     ghost invariant = { λ s. s.at ≤ vec_len s.words };
-}
-
-// The signal that a word names.
-fn signal_named(text: &[u8]) -> Option<SignalWord>
-    ensures { result ≡ signal_of text.now }
-{
-    if text == b"HUP".as_slice() {
-        Some(SignalWord::Hup)
-    } else if text == b"INT".as_slice() {
-        Some(SignalWord::Int)
-    } else if text == b"TERM".as_slice() {
-        Some(SignalWord::Term)
-    } else if text == b"USR1".as_slice() {
-        Some(SignalWord::Usr1)
-    } else if text == b"USR2".as_slice() {
-        Some(SignalWord::Usr2)
-    } else {
-        None
-    }
 }
 
 impl MemoryControl {

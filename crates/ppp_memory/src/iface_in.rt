@@ -1,9 +1,10 @@
 ghost use Rattle.std.specs.Prelude.{◌≡◌, drop};
-ghost use Rattle.ppp_memory.specs.Iface.{after_take, answer_of, buffer_after, first_packet, packet_of, state_of};
+ghost use Rattle.ppp_memory.specs.Iface.{after_take, answer_of, buffer_after, first_packet, state_of};
 ghost use Rattle.ppp_outside.specs.Iface.{TakesPacket};
+ghost use Rattle.ppp_outside.specs.Messages.{packet_of};
 
-use ppp_base::{Datagram, Unit};
-use ppp_outside::{IfaceGot, IfaceIn, UnitDatagram};
+use ppp_base::Datagram;
+use ppp_outside::{packet_in, IfaceGot, IfaceIn, UnitDatagram};
 use std::marker::Model;
 
 /// A message of a packet socket: an octet with the unit's number, and a datagram.
@@ -32,14 +33,7 @@ impl Message {
     fn packet(&self) -> Option<UnitDatagram>
         ensures { result ≡ packet_of self.now }
     {
-        match self.octets.as_slice() {
-            [] | [_] => None,
-            [number, octets @ ..] => {
-                let unit = Unit::new(*number)?;
-                let datagram = Datagram::from_octets(octets)?;
-                Some(UnitDatagram { unit, datagram })
-            }
-        }
+        packet_in(self.octets.as_slice())
     }
 }
 

@@ -1,5 +1,6 @@
 pub mod AskedLemmas
 pub mod Digits
+pub mod MessageLemmas
 pub mod Pieces
 pub mod PutLemmas
 pub mod TakenLemmas

@@ -13,7 +13,9 @@ pub mod LineWords
 pub mod MemorySink
 pub mod MemorySource
 pub mod MemorySpawner
+pub mod Messages
 pub mod Reading
+pub mod SignalNames
 pub mod Sink
 pub mod Source
 pub mod Spawner

@@ -1,4 +1,3 @@
+pub mod Control
 pub mod Line
 pub mod Spawner
-pub mod Iface
-pub mod Control

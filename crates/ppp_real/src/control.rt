@@ -1,9 +1,9 @@
 ghost use Rattle.std.specs.Prelude.{◌≡◌, None};
-ghost use Rattle.ppp_real.specs.Control.{HearsOctet, signal_of};
+ghost use Rattle.ppp_real.specs.Control.{HearsOctet};
 
 use crate::socket::{is_quiet, wait_of};
 use ppp_base::{Name, SignalWord};
-use ppp_outside::{Control, Word};
+use ppp_outside::{signal_named, Control, Word};
 use std::io::{Error, ErrorKind, Read, Result};
 use std::net::Net;
 use std::os::fd::AsFd;
@@ -70,25 +70,6 @@ enum Heard {
     Signal(SignalWord),
     Nothing,
     End,
-}
-
-// The signal that a word names.
-fn signal_named(text: &[u8]) -> Option<SignalWord>
-    ensures { result ≡ signal_of text.now }
-{
-    if text == b"HUP".as_slice() {
-        Some(SignalWord::Hup)
-    } else if text == b"INT".as_slice() {
-        Some(SignalWord::Int)
-    } else if text == b"TERM".as_slice() {
-        Some(SignalWord::Term)
-    } else if text == b"USR1".as_slice() {
-        Some(SignalWord::Usr1)
-    } else if text == b"USR2".as_slice() {
-        Some(SignalWord::Usr2)
-    } else {
-        None
-    }
 }
 
 impl Line {

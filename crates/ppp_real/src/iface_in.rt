@@ -1,9 +1,9 @@
 ghost use Rattle.std.specs.Prelude.{◌≡◌, None, IfOk};
-ghost use Rattle.ppp_real.specs.Iface.{IsFilled, packet_of};
+ghost use Rattle.ppp_outside.specs.Messages.{IsFilled};
 
 use crate::socket::{is_quiet, wait_of};
-use ppp_base::{Datagram, Name, Unit};
-use ppp_outside::{IfaceGot, IfaceIn, UnitDatagram};
+use ppp_base::{Datagram, Name};
+use ppp_outside::{packet_in, IfaceGot, IfaceIn, UnitDatagram};
 use std::io::{Error, ErrorKind, Result};
 use std::net::{Net, UdpSocket};
 use std::{rt, thread};
@@ -77,22 +77,6 @@ pub fn both_addresses(addresses: &Name) -> Result<(&str, &str)> {
     }
 }
 
-// The packet that a message is.
-#[tactic(auto, using(crate::proofs::IfaceLemmas::is_filled))]
-fn read_packet(message: &[u8]) -> Option<UnitDatagram>
-    ensures packet { result ≡ packet_of message.now }
-    ensures filled { IsFilled result }
-{
-    match message {
-        [] | [_] => None,
-        [number, octets @ ..] => {
-            let unit = Unit::new(*number)?;
-            let datagram = Datagram::from_octets(octets)?;
-            Some(UnitDatagram { unit, datagram })
-        }
-    }
-}
-
 // The next message's packet. A message that is too long for a packet fills all of its room, and is none.
 fn receive(socket: &UdpSocket, wait_ms: u32) -> Result<Option<UnitDatagram>>
     ensures { IfOk result (λ packet. IsFilled packet) }
@@ -100,7 +84,7 @@ fn receive(socket: &UdpSocket, wait_ms: u32) -> Result<Option<UnitDatagram>>
     let mut message = [0u8; 2050];
     socket.set_read_timeout(Some(wait_of(wait_ms)))?;
     match socket.recv(&mut message) {
-        Ok(count) => Ok(read_packet(&message[..count])),
+        Ok(count) => Ok(packet_in(&message[..count])),
         Err(error) if is_quiet(&error) => Ok(None),
         Err(error) => Err(error),
     }
