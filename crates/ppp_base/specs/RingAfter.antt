@@ -9,12 +9,10 @@ pub record Ring (A : Type 0) : Type 0 where
 
 -- one more, up to the last value of a count
 abbrev pub one_more : ℕ → ℕ
-
 one_more count = min (count + 1) (2 ^ 64 - 1)
 
 -- A thing is appended whole where it fits with what waits; else it is dropped and counted.
 abbrev pub RingAfter : {A : Type 0} → (List A → ℕ) → ℕ → List A → Ring A → Ring A
-
 RingAfter size most thing ring =
     if nat_le (size (ring.waiting ++ thing)) most
     then record ring { waiting = ring.waiting ++ thing }

@@ -3,7 +3,7 @@ ghost use Rattle.ppp_memory.specs.Control.{after_next, answer_of, counted_after,
 ghost use Rattle.ppp_outside.specs.Control.{HearsWord, failed};
 
 use ppp_base::Name;
-use ppp_outside::{signal_named, Control, Word};
+use ppp_outside::{Control, Word, signal_named};
 use std::marker::Model;
 
 /// A control in memory, which hears the words of a list. Some calls fail.

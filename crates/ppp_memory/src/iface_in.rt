@@ -4,7 +4,7 @@ ghost use Rattle.ppp_outside.specs.Iface.{TakesPacket};
 ghost use Rattle.ppp_outside.specs.Messages.{packet_of};
 
 use ppp_base::Datagram;
-use ppp_outside::{packet_in, IfaceGot, IfaceIn, UnitDatagram};
+use ppp_outside::{IfaceGot, IfaceIn, UnitDatagram, packet_in};
 use std::marker::Model;
 
 /// A message of a packet socket: an octet with the unit's number, and a datagram.

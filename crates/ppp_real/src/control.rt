@@ -3,7 +3,7 @@ ghost use Rattle.ppp_real.specs.Control.{HearsOctet};
 
 use crate::socket::{is_quiet, wait_of};
 use ppp_base::{Name, SignalWord};
-use ppp_outside::{signal_named, Control, Word};
+use ppp_outside::{Control, Word, signal_named};
 use std::io::{Error, ErrorKind, Read, Result};
 use std::net::Net;
 use std::os::fd::AsFd;

@@ -3,7 +3,7 @@ ghost use Rattle.ppp_outside.specs.Messages.{IsFilled};
 
 use crate::socket::{is_quiet, wait_of};
 use ppp_base::{Datagram, Name};
-use ppp_outside::{packet_in, IfaceGot, IfaceIn, UnitDatagram};
+use ppp_outside::{IfaceGot, IfaceIn, UnitDatagram, packet_in};
 use std::io::{Error, ErrorKind, Result};
 use std::net::{Net, UdpSocket};
 use std::{rt, thread};
