@@ -1,5 +1,5 @@
-mod UnchangedLemmas
-mod CountLemmas
-mod PhaseLemmas
 mod OneLineLemmas
-mod SoundLemmas
+mod StandsLemmas
+mod AnswerLemmas
+mod CallLemmas
+mod BeginLemmas

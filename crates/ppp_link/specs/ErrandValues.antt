@@ -6,10 +6,10 @@ use Rattle.ppp_outside.specs.Counts.{Rose}
 use Rattle.ppp_outside.specs.Line.{LineState}
 use Rattle.ppp_outside.specs.Sink.{SinkState}
 use Rattle.ppp_outside.specs.declared.line_words.LineWords.{LineWords}
-use Rattle.ppp_link.specs.declared.errand.ReadEnd.{ReadEnd}
-use Rattle.ppp_link.specs.declared.errand.ReadEnd.TheVariants as read
-use Rattle.ppp_link.specs.declared.errand.SentEnd.{SentEnd}
-use Rattle.ppp_link.specs.declared.errand.SentEnd.TheVariants as sent
+use Rattle.ppp_link_rules.specs.declared.errand.ReadEnd.{ReadEnd}
+use Rattle.ppp_link_rules.specs.declared.errand.ReadEnd.TheVariants as read
+use Rattle.ppp_link_rules.specs.declared.errand.SentEnd.{SentEnd}
+use Rattle.ppp_link_rules.specs.declared.errand.SentEnd.TheVariants as sent
 
 -- OCTETS THAT CAME: whose they are, how many the line had given before them, and they
 pub record PieceValue : Type 0 where
@@ -61,6 +61,7 @@ pub record ReadOverState (I : Type 0) : Type 0 where
   pub link : ℕ
   pub session : ℕ
   pub end : ReadEnd
+  pub taken : ℕ
   pub input : I
 
 -- At a line's end its count of ends is another than the one with which it was dialled, which is 0, and nothing is left where the line tells this; behind a fault

@@ -6,8 +6,8 @@ use Rattle.ppp_outside.specs.declared.line_in.LineAnswer.{LineAnswer}
 use Rattle.ppp_outside.specs.declared.line_in.LineGot.{LineGot}
 use Rattle.ppp_outside.specs.declared.line_in.LineGot.TheVariants as got
 use Rattle.ppp_link.specs.ErrandValues.{PieceValue, ReadingState, ReadOverState}
-use Rattle.ppp_link.specs.declared.errand.ReadEnd.{ReadEnd}
-use Rattle.ppp_link.specs.declared.errand.ReadEnd.TheVariants as read
+use Rattle.ppp_link_rules.specs.declared.errand.ReadEnd.{ReadEnd}
+use Rattle.ppp_link_rules.specs.declared.errand.ReadEnd.TheVariants as read
 use Rattle.ppp_link.specs.declared.reading.ReadStep.{ReadStep}
 use Rattle.ppp_link.specs.declared.reading.ReadStep.TheVariants as step
 
@@ -44,7 +44,7 @@ pub record IsOver {I : Type 0} (state : I → LineState) (coming : I → Option 
   pub answer : LineGot
   pub by : answer_by new.end ≡ Some answer
   pub read : ReadOnce state coming old.input new.input answer buf
-  pub over_is : new ≡ record { link = old.link; session = old.session; end = new.end; input = new.input }
+  pub over_is : new ≡ record { link = old.link; session = old.session; end = new.end; taken = old.taken; input = new.input }
 
 abbrev pub Reads : {I : Type 0} → (I → LineState) → (I → Option LineAnswer) → ReadingState I → ReadStep I → Type 0
 Reads state coming old (step.Piece new piece) = IsPiece state coming old new piece

@@ -2,30 +2,31 @@
 //! frames on, hangs up, holds off and dials again. It runs its site scripts while its peer has proved itself, and its log
 //! has all that it decided.
 //!
-//! `LinkPart` of specs/LinkPart.antt says what each of the nine events makes of a link.
+//! `LinkPart` of the crate `ppp_link_rules` says what each of the nine events makes of a link.
 #![tactic(auto)]
 
-mod cause;
-mod counts;
+mod dial_desk;
 mod dial_job;
-mod errand;
+mod dialling;
+mod ending;
+mod half;
 pub mod laws;
-pub mod limits;
+mod lcp_calls;
+mod line_input;
+mod link;
+mod link_core;
 mod piece;
 mod reading;
-pub mod rows;
+mod sending;
+mod showing;
+mod taking;
 #[cfg(test)]
 mod tests;
-mod view;
-mod wishes;
 mod writing;
 
-pub use cause::Cause;
-pub use counts::FrameCounts;
 pub use dial_job::{DialDone, DialJob};
-pub use errand::{Errand, ReadEnd, SentEnd};
+pub use link::Link;
 pub use piece::Piece;
 pub use reading::{ReadOver, ReadStep, Reading};
-pub use view::LinkView;
-pub use wishes::{auth_config, dial_policy, lcp_wish};
 pub use writing::{Sent, Writing};
+pub use ppp_link_rules::{Cause, Errand, FrameCounts, LinkView, ReadEnd, SentEnd, auth_config, dial_policy, lcp_wish};

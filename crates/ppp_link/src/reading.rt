@@ -3,7 +3,7 @@ ghost use Rattle.ppp_outside.specs.Counts.{raised};
 ghost use Rattle.ppp_link.specs.ErrandValues.{IsReadEnd};
 ghost use Rattle.ppp_link.specs.Reading.{Reads};
 
-use crate::errand::ReadEnd;
+use ppp_link_rules::errand::ReadEnd;
 use crate::piece::Piece;
 use ppp_base::{LinkId, Octets};
 use ppp_outside::{LineGot, LineIn, ScriptedLine};
@@ -38,17 +38,19 @@ pub struct ReadOver<I: LineIn> {
     pub(crate) link: LinkId,
     pub(crate) session: u32,
     pub(crate) end: ReadEnd,
+    pub(crate) taken: u64,
     pub(crate) input: I,
 }
 
 impl<I: LineIn> Model for ReadOver<I> {
+    ghost use Rattle.std.specs.Prelude.{◌≡◌};
     ghost use Rattle.ppp_link.specs.ErrandValues.{ReadOverState, IsReadEnd};
 
     ghost Value = { ReadOverState I };
 
-    ghost view = { λ r. record { link = r.link; session = r.session; end = r.end; input = r.input } };
+    ghost view = { λ r. record { link = r.link; session = r.session; end = r.end; taken = r.taken; input = r.input } };
 
-    ghost invariant = { λ r. IsReadEnd r.end (I.state r.input) };
+    ghost invariant = { λ r. IsReadEnd r.end (I.state r.input) × (r.taken ≡ (I.state r.input).taken) };
 }
 
 /// What a turn of a reading gives.
@@ -104,12 +106,14 @@ impl<I: LineIn> Reading<I> {
                 link,
                 session,
                 end: ReadEnd::End,
+                taken,
                 input,
             }),
             LineGot::Failed => ReadStep::Over(ReadOver {
                 link,
                 session,
                 end: ReadEnd::Failed,
+                taken,
                 input,
             }),
         }
@@ -117,12 +121,13 @@ impl<I: LineIn> Reading<I> {
 
     /// Gives the reading up.
     pub fn leave(self) -> ReadOver<I>
-        ensures { result ≡ record { link = self.link; session = self.session; end = ReadEnd.Left; input = self.input } }
+        ensures { result ≡ record { link = self.link; session = self.session; end = ReadEnd.Left; taken = self.taken; input = self.input } }
     {
         ReadOver {
             link: self.link,
             session: self.session,
             end: ReadEnd::Left,
+            taken: self.taken,
             input: self.input,
         }
     }

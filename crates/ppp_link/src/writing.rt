@@ -1,7 +1,7 @@
 ghost use Rattle.std.specs.Prelude.{◌≡◌, ℕ, ◌<◌, ◌≤◌, ◌-◌, length, take, drop, IfSome};
 ghost use Rattle.ppp_link.specs.ErrandValues.{HasSent, IsSentEnd};
 
-use crate::errand::SentEnd;
+use ppp_link_rules::errand::SentEnd;
 use ppp_base::{LinkId, Octets};
 use ppp_outside::{ScriptedSink, Sink, SinkNext, Took};
 use std::marker::Model;

@@ -1,0 +1,4 @@
+mod StartLemmas
+mod OutLemmas
+mod DialLemmas
+mod KeptLemmas

@@ -1,0 +1,3 @@
+pub mod Records
+pub mod Talk
+pub mod UpRing

@@ -1,0 +1,9 @@
+//! What a link keeps: its records (log, scripts, dial, and what its marks tell), the ring of octets for its line, the ring
+//! of posts to the table, and its chat.
+#![tactic(auto)]
+
+pub mod control;
+pub mod out_ring;
+pub mod records;
+pub mod talk;
+pub mod up_ring;

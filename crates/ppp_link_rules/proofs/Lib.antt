@@ -1,0 +1,4 @@
+mod UnchangedLemmas
+mod CountLemmas
+mod PhaseLemmas
+mod SoundLemmas
