@@ -1,5 +1,5 @@
 -- What is taken from the front of what waits for the line.
-use Rattle.std.proofs.Common.{ap, sym, subst, ◌∙◌, ◌≡◌, ℕ, List, ◌++◌, length, take, drop, arith}
+use Rattle.std.proofs.Common.{ap, subst, ◌∙◌, ◌≡◌, ℕ, List, ◌++◌, length, take, drop, arith}
 use Rattle.std.specs.Prelude.{min, ◌≤◌}
 use Rattle.std.proofs.Math.Seq.{take-append_seam}
 use Rattle.std.proofs.lemmas.List.{drop_min, length-take-le, take_min}

@@ -1,12 +1,10 @@
 -- The counts of starts and ends are those that the marks say of scripts.
-use Rattle.std.proofs.Common.{refl, ap, ◌∙◌, ◌≡◌, ℕ, ◌+◌, Bool, true, false, List, [], ◌∷◌, if◌then◌else◌, ◌==◌, arith}
-use Rattle.std.specs.Prelude.{is_some, ◌≤◌, ◌<◌, nat_lt}
+use Rattle.std.proofs.Common.{refl, ◌≡◌, List, [], ◌∷◌, arith}
 use Rattle.ppp_hooks.specs.HookPast.{ends_in, starts_in}
 use Rattle.ppp_mark.specs.declared.mark.Mark.{Mark}
 use Rattle.ppp_mark.specs.declared.kind.TheConstants.{START, ENDED}
 use Rattle.ppp_mark.specs.Scripts.{said_in}
 use Rattle.ppp_link_rules.specs.Marks.{count_in}
-use Rattle.ppp_link_rules.specs.Replay.{running_by}
 
 pub starts_counted : (past : List Mark) → count_in 0 START past ≡ starts_in (said_in past)
 starts_counted [] = refl

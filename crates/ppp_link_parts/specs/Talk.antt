@@ -1,7 +1,6 @@
 -- A link's chat with who hears its line, and which listener of the plain state it stands for.
-use Rattle.std.specs.Prelude.{◌≡◌, Bool, true, false, Option, None, Some, is_some, List, IfSome, option_map, ⊤}
+use Rattle.std.specs.Prelude.{◌≡◌, true, Option, is_some, IfSome, option_map, ⊤}
 use Rattle.ppp_chat.specs.ChatState.{ChatState, IsBegun, StandsFor}
-use Rattle.ppp_chat.specs.declared.event.Event.{Event}
 use Rattle.ppp_chat.specs.Script.{ChatScript}
 use Rattle.ppp_link_rules.specs.LinkState.{Listener, Nobody, Chatting, Framing}
 use Rattle.ppp_link_parts.specs.declared.talk.Hears.{Hears}

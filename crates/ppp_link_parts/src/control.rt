@@ -1,5 +1,5 @@
-use ppp_link_rules::cause::Cause;
 use ppp_base::Unit;
+use ppp_link_rules::cause::Cause;
 
 // What a link does.
 #[derive(Clone, Copy, Debug, PartialEq, Eq)]

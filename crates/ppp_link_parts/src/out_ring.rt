@@ -4,10 +4,10 @@ ghost use Rattle.ppp_link_rules.specs.Errands.{is_none_waiting};
 ghost use Rattle.ppp_link_rules.specs.Rings.{put_out};
 ghost use Rattle.ppp_link_rules.specs.declared.limits.TheConstants.{MOST_WRITTEN};
 
-use ppp_link_rules::limits::OUT_RING;
 use circular_buffer::HeapCircularBuffer;
 use ppp_base::{NoMemory, Octets, SendSettings};
 use ppp_hdlc::frame_into;
+use ppp_link_rules::limits::OUT_RING;
 use std::alloc::Global;
 use std::marker::Model;
 

@@ -11,11 +11,11 @@ ghost use Rattle.ppp_outside.specs.declared.line_words.LineWords.{LineWords};
 ghost use Rattle.ppp_link_rules.specs.Marks.{Holds, New, Waits, hold_by, is_new, is_session, status_by};
 ghost use Rattle.ppp_link_parts.specs.Records.{DialStands, answer_marked, marked_with, says, told};
 
-use ppp_link_rules::cause::Cause;
 use crate::control::{Control, Doing};
 use ppp_base::{HookTarget, LinkId, NoMemory, Refusal, SignalWord, Unit};
 use ppp_dial::laws::exactly_one_answer;
 use ppp_dial::{Dial, DialNow, DialPolicy};
+use ppp_link_rules::cause::Cause;
 use ppp_mark::{Log, Mark, ScriptLog};
 use ppp_outside::Spawner;
 use std::alloc::Global;

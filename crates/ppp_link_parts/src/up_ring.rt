@@ -1,8 +1,8 @@
 ghost use Rattle.std.specs.Prelude.{◌≡◌, ◌++◌, [], option_to_list, IfOk, IfNone};
 
-use ppp_link_rules::limits::FRAME_ROOM;
 use circular_buffer::HeapCircularBuffer;
 use ppp_base::{Frame, Join, NoMemory, UpPost};
+use ppp_link_rules::limits::FRAME_ROOM;
 use std::alloc::Global;
 use std::marker::Model;
 
