@@ -1,4 +1,3 @@
-pub mod ActLemmas
 pub mod SessionFacts
 pub mod EndFacts
 pub mod SoundFacts

@@ -2,13 +2,9 @@
 //! event comes in, and what is to be sent and given, and the script that is due, are taken out.
 //!
 //! `Bundle` is a unit. So far its bundles are plain ones, of one link. What an event makes of it stands in
-//! `specs/UnitPart.antt`, what its marks say in `specs/Replay.antt`. No call but `Bundle::new` and `Bare::new` takes memory.
-//!
-//! `Bare` is one automaton with its ip scripts and their log. As Opened is entered the protocol opens under the next
-//! number, as it is left it closes; what the scripts do then is `ppp_mark::ScriptLog`'s.
+//! `specs/UnitPart.antt`, what its marks say in `specs/Replay.antt`. No call but `Bundle::new` takes memory.
 #![tactic(auto)]
 
-mod bare;
 mod bundle;
 mod event;
 pub mod laws;
@@ -22,7 +18,6 @@ mod tests;
 mod unit_state;
 mod wish;
 
-pub use bare::{Bare, MOST_MARKS};
 pub use bundle::Bundle;
 pub use event::BundleEvent;
 pub use outbox::{BundleEnd, Sending, UnitCounts};

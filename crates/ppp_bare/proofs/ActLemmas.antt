@@ -14,8 +14,8 @@ use Rattle.ppp_mark.specs.Log.{LogState}
 use Rattle.ppp_mark.specs.ScriptLog.{KeepsLaw, ScriptLogState}
 use Rattle.ppp_mark.specs.Scripts.{said_in}
 use Rattle.ppp_mark.proofs.ScriptLemmas.{keeps_law}
-use Rattle.ppp_bundle.specs.Acts.{after_act, after_acts, log_act, log_acts}
-use Rattle.ppp_bundle.specs.Bare.{FollowsLaw, IsBare}
+use Rattle.ppp_bare.specs.Acts.{after_act, after_acts, log_act, log_acts}
+use Rattle.ppp_bare.specs.Bare.{FollowsLaw, IsBare}
 use Rattle.ppp_hooks.specs.HookCall.{closed_marks}
 use Rattle.ppp_hooks.specs.HookRule.{with_due}
 use Rattle.ppp_hooks.specs.HookMark.{Opened, Closed}

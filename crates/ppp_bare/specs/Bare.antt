@@ -8,7 +8,7 @@ use Rattle.ppp_mark.specs.declared.mark.Mark.{Mark}
 use Rattle.ppp_mark.specs.ScriptLog.{IsKept, ScriptLogState}
 use Rattle.ppp_mark.specs.Scripts.{LogLaw, LogSettled, said_in}
 use Rattle.ppp_outside.specs.declared.hook_words.HookArgs.{HookArgs}
-use Rattle.ppp_bundle.specs.declared.bare.TheConstants.{MOST_MARKS}
+use Rattle.ppp_bare.specs.declared.bare.TheConstants.{MOST_MARKS}
 
 -- the automaton, and its scripts with their log
 pub record BareState (S : Type 0) : Type 0 where

@@ -1,11 +1,11 @@
 use Rattle.std.proofs.Common.{◌∙◌, ap, sym}
 use Rattle.std.specs.Prelude.{◌==◌}
-use Rattle.ppp_bundle.specs.Acts.{after_acts, log_acts}
-use Rattle.ppp_bundle.proofs.ActLemmas.{after_layer_acts, follows_law, log_layer_acts}
+use Rattle.ppp_bare.specs.Acts.{after_acts, log_acts}
+use Rattle.ppp_bare.proofs.ActLemmas.{after_layer_acts, follows_law, log_layer_acts}
 use Rattle.ppp_fsm.specs.Fsm.{acts_of}
 use Rattle.ppp_fsm.proofs.OpeningLemmas.{opens_by_acts}
 use Rattle.ppp_mark.specs.Scripts.{said_in}
-use Rattle.ppp_bundle.proofs.bare.Bare.apply.Goals as goal
+use Rattle.ppp_bare.proofs.bare.Bare.apply.Goals as goal
 
 pub returns-clause-log : goal.returns-clause-log
 returns-clause-log g c =

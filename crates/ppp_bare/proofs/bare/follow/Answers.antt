@@ -1,8 +1,8 @@
 use Rattle.std.proofs.Common.{refl}
-use Rattle.ppp_bundle.specs.Acts.{after_acts, log_acts}
-use Rattle.ppp_bundle.proofs.ActLemmas.{said_closed}
+use Rattle.ppp_bare.specs.Acts.{after_acts, log_acts}
+use Rattle.ppp_bare.proofs.ActLemmas.{said_closed}
 use Rattle.ppp_mark.specs.Scripts.{said_in}
-use Rattle.ppp_bundle.proofs.bare.follow.Goals as goal
+use Rattle.ppp_bare.proofs.bare.follow.Goals as goal
 
 pub returns-in-false-false-clause-log : goal.returns-in-false-false-clause-log
 unfolding log_acts

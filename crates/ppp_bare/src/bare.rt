@@ -1,7 +1,7 @@
 ghost use Rattle.std.specs.Prelude.{option_map, ◌≡◌, ℕ, ◌^◌, ◌<◌, ◌≤◌, ◌↔◌, true, false, ◌==◌, [], ◌∷◌, IsSome, IfSome, IfNone, OnSome, IfOk, OnOk, OnErr, IsOk, IfErr, Some, None};
 ghost use Rattle.ppp_base.specs.declared.hook_target.HookTarget.TheVariants.{Unit as OfUnit};
-ghost use Rattle.ppp_bundle.specs.Acts.{after_acts, log_acts};
-ghost use Rattle.ppp_bundle.specs.Bare.{FollowsLaw, IsBare, bare_args};
+ghost use Rattle.ppp_bare.specs.Acts.{after_acts, log_acts};
+ghost use Rattle.ppp_bare.specs.Bare.{FollowsLaw, IsBare, bare_args};
 ghost use Rattle.ppp_fsm.specs.Fsm.{acts_of, after};
 ghost use Rattle.ppp_fsm.specs.Opening.{layer_change};
 ghost use Rattle.ppp_hooks.specs.HookMark.{Ended};
@@ -37,7 +37,7 @@ pub struct Bare<S: Spawner> {
 
 impl<S: Spawner> Model for Bare<S> {
     ghost use Rattle.std.specs.Prelude.{◌==◌};
-    ghost use Rattle.ppp_bundle.specs.Bare.{BareState, IsBare};
+    ghost use Rattle.ppp_bare.specs.Bare.{BareState, IsBare};
 
     ghost Value = { BareState S };
 
