@@ -11,4 +11,6 @@ pub mod records;
 mod scripts;
 pub mod status;
 pub mod talk;
+#[cfg(test)]
+mod tests;
 pub mod up_ring;

@@ -108,6 +108,7 @@ impl Talk {
             → Listens script self.new (Chatting (calls ++ octet_at octet now ∷ [])) }
         ensures answer { (script : Option ChatScript) (calls : List Event) → Listens script self.old (Chatting calls)
             → result ≡ chat_answer script calls (octet_at octet now) }
+        ensures who { self.new.who ≡ hears.Chat }
     {
         answers_are_listed();
         match &mut self.chat {
@@ -123,6 +124,7 @@ impl Talk {
             → Listens script self.new (Chatting (calls ++ tick_at now ∷ [])) }
         ensures answer { (script : Option ChatScript) (calls : List Event) → Listens script self.old (Chatting calls)
             → result ≡ chat_answer script calls (tick_at now) }
+        ensures who { self.new.who ≡ hears.Chat }
     {
         answers_are_listed();
         match &mut self.chat {
