@@ -1,4 +1,8 @@
 mod StartLemmas
 mod OutLemmas
+mod UpLemmas
+mod StepLemmas
 mod DialLemmas
 mod KeptLemmas
+mod AnsweredLemmas
+mod SpanLemmas

@@ -1,18 +1,21 @@
 -- What contracts see of a link's records: its scripts with their log, and its dial. What else is kept of the log is what its marks tell.
-use Rattle.std.specs.Prelude.{ℕ, ◌+◌, ◌==◌, ◌≤◌, ◌≡◌, ◌||◌, Bool, true, false, List, [], ◌∷◌, length}
+use Rattle.std.specs.Prelude.{ℕ, ◌+◌, ◌==◌, ◌≤◌, ◌≡◌, ◌≢◌, ◌||◌, Bool, true, false, List, [], ◌∷◌, length}
+use Rattle.ppp_base.specs.declared.hook_target.HookTarget.{HookTarget}
 use Rattle.ppp_base.specs.declared.hook_target.HookTarget.TheVariants.{Link}
 use Rattle.ppp_dial.specs.Answer.{answer_to}
 use Rattle.ppp_dial.specs.declared.call.CallKind.{CallKind}
 use Rattle.ppp_dial.specs.declared.dial.Dial.{Dial}
 use Rattle.ppp_dial.specs.declared.now.DialNow.{DialNow}
 use Rattle.ppp_dial.specs.declared.now.DialNow.TheVariants as answer
-use Rattle.ppp_dial.specs.Happened.{asked}
 use Rattle.ppp_dial.specs.LookingBack.{nothing_yet, so_far}
 use Rattle.ppp_dial.specs.DialState.{StandsFor}
+use Rattle.ppp_dial.specs.Happened.{Happened, asked}
+use Rattle.ppp_dial.specs.declared.stage.Stage.{Stage}
+use Rattle.ppp_dial.specs.declared.stage.Stage.TheVariants as stage
 use Rattle.ppp_outside.specs.declared.line_words.LineWords.{LineWords}
 use Rattle.ppp_mark.specs.declared.mark.Mark.{Mark}
 use Rattle.ppp_mark.specs.declared.kind.TheConstants.{ATTEMPT, LCP_OPEN, ASKED, SIGNAL, OVER}
-use Rattle.ppp_mark.specs.Log.{added, room_of}
+use Rattle.ppp_mark.specs.Log.{LogState, added, room_of}
 use Rattle.ppp_mark.specs.Marks.{attempt_mark, finished_mark, hold_mark, wait_mark}
 use Rattle.ppp_mark.specs.ScriptLog.{ScriptLogState}
 use Rattle.ppp_link_parts.specs.declared.control.Control.{Control}
@@ -79,19 +82,43 @@ is_at_rest (Holds until) = true
 is_at_rest Waits = true
 is_at_rest (HasFinished status) = false
 
-pub record AreKept {S : Type 0} (id : ℕ) (scripts : ScriptLogState S) (c : Control) : Type 0 where
+abbrev pub IsOfLink : HookTarget → Type 0
+IsOfLink target = (id : ℕ) × (target ≡ Link id)
+
+-- what a dial does while its link does this
+abbrev pub stage_by : Doing → Stage
+stage_by New = stage.New
+stage_by Dials = stage.Dialling
+stage_by HasLine = stage.Dialling
+stage_by IsOver = stage.Dialling
+stage_by (Holds until) = stage.Holding until
+stage_by Waits = stage.Waiting
+stage_by (HasFinished status) = stage.Finished status
+
+-- The dial stands for some calls, and does what the marks tell. What the end of a session led to is told with it.
+pub record IsInStep (dial : Dial) (doing : Doing) : Type 0 where
+  pub calls : List Happened
+  pub stands : StandsFor nothing_yet dial calls
+  pub does : dial.stage ≡ stage_by doing
+  pub not_over : doing ≢ IsOver
+
+pub record AreKept {S : Type 0} (id : ℕ) (scripts : ScriptLogState S) (dial : Dial) (c : Control) : Type 0 where
   pub target : scripts.machine.target ≡ Link id
   pub told : KeepsTold c scripts.log.past
   pub few : AreFew c scripts.log.past
   pub rests : is_at_rest (doing_in scripts.log.past) ≡ true → is_call scripts.log.past ≡ false
+  pub step : IsInStep dial (doing_in scripts.log.past)
 
 -- What the dial answers, as its mark.
+abbrev pub log_answered : DialNow → ℕ → LogState → LogState
+log_answered answer.Nothing time log = log
+log_answered answer.Begin time log = added (attempt_mark time (count_in 0 ATTEMPT log.past + 1)) log
+log_answered (answer.Hold milliseconds) time log = added (hold_mark time milliseconds) log
+log_answered answer.Wait time log = added (wait_mark time) log
+log_answered (answer.Finish status) time log = added (finished_mark time status) log
+
 abbrev pub answer_marked : {S : Type 0} → DialNow → ℕ → RecordsNow S → RecordsNow S
-answer_marked answer.Nothing time r = r
-answer_marked answer.Begin time r = marked_with (attempt_mark time ((told r).session + 1)) r
-answer_marked (answer.Hold milliseconds) time r = marked_with (hold_mark time milliseconds) r
-answer_marked answer.Wait time r = marked_with (wait_mark time) r
-answer_marked (answer.Finish status) time r = marked_with (finished_mark time status) r
+answer_marked answer time r = record r { scripts = record r.scripts { log = log_answered answer time r.scripts.log } }
 
 abbrev pub is_begin : DialNow → Bool
 is_begin answer.Nothing = false

@@ -1,12 +1,13 @@
 -- What waits in a link for the table, where it is kept: a list of what waits, the octets of the frames one behind the other, and beside them the Join and the Leave.
-use Rattle.std.specs.Prelude.{ℕ, ◌+◌, ◌*◌, ◌≤◌, ◌≡◌, Option, None, Some, List, [], ◌∷◌, length, take, drop, ⊤}
+use Rattle.std.specs.Prelude.{ℕ, ◌+◌, ◌*◌, ◌≤◌, ◌≡◌, Bool, true, false, if◌then◌else◌, Option, None, Some, List, [], ◌∷◌, length, take, drop, ⊤}
 use Rattle.ppp_base.specs.declared.posts.Join.{Join}
 use Rattle.ppp_base.specs.declared.posts.UpPost.{UpPost}
 use Rattle.ppp_base.specs.declared.posts.UpPost.TheVariants as post
 use Rattle.ppp_link_parts.specs.declared.up_ring.Entry.{Entry}
 use Rattle.ppp_link_parts.specs.declared.up_ring.Entry.TheVariants as entry
 use Rattle.ppp_link_rules.specs.declared.limits.TheConstants.{FRAME_HEAD, FRAME_ROOM}
-use Rattle.ppp_base.specs.RingAfter.{Ring}
+use Rattle.ppp_base.specs.RingAfter.{Ring, RingAfter}
+use Rattle.ppp_link_rules.specs.Rings.{frames_size}
 use Rattle.ppp_link_rules.specs.UpValue.{UpValue, JoinValue, Asks, Hands, Leaves}
 
 -- the posts that wait
@@ -88,3 +89,26 @@ values_of (p ∷ posts) = value_of p ∷ values_of posts
 
 abbrev pub ring_of : Ring UpPost → Ring UpValue
 ring_of ring = record { waiting = values_of ring.waiting; dropped = ring.dropped }
+
+-- whether a Leave waits
+abbrev pub is_leave : UpValue → Bool
+is_leave (Asks join) = false
+is_leave (Hands protocol information) = false
+is_leave (Leaves stay) = true
+
+abbrev pub has_leave : List UpValue → Bool
+has_leave [] = false
+has_leave (post ∷ posts) = if is_leave post then true else has_leave posts
+
+-- WHAT A RING BECOMES
+
+-- with a frame, or with one more that was dropped
+abbrev pub posts_size : List UpPost → ℕ
+posts_size posts = frames_size (values_of posts)
+
+abbrev pub with_frame : ℕ → List ℕ → Ring UpPost → Ring UpPost
+with_frame protocol information ring = RingAfter posts_size FRAME_ROOM (post.Frame protocol information ∷ []) ring
+
+-- without its oldest post
+abbrev pub without_first : Ring UpPost → Ring UpPost
+without_first ring = record ring { waiting = drop 1 ring.waiting }

@@ -2,8 +2,15 @@
 //! of posts to the table, and its chat.
 #![tactic(auto)]
 
+mod answering;
 pub mod control;
+mod dialling;
+pub mod hearing;
 pub mod out_ring;
 pub mod records;
+mod scripts;
+pub mod status;
 pub mod talk;
+#[cfg(test)]
+mod tests;
 pub mod up_ring;

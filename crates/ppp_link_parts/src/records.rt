@@ -13,8 +13,7 @@ ghost use Rattle.ppp_link_parts.specs.Records.{DialStands, answer_marked, marked
 
 use crate::control::{Control, Doing};
 use ppp_base::{HookTarget, LinkId, NoMemory, Refusal, SignalWord, Unit};
-use ppp_dial::laws::exactly_one_answer;
-use ppp_dial::{Dial, DialNow, DialPolicy};
+use ppp_dial::{Dial, DialPolicy};
 use ppp_link_rules::cause::Cause;
 use ppp_mark::{Log, Mark, ScriptLog};
 use ppp_outside::Spawner;
@@ -24,10 +23,10 @@ use std::marker::Model;
 /// A link's log with its scripts, its dial, and what the log's marks tell.
 #[derive(Drop)]
 pub struct Records<S: Spawner> {
-    id: LinkId,
-    scripts: ScriptLog<S>,
-    dial: Dial,
-    control: Control,
+    pub(crate) id: LinkId,
+    pub(crate) scripts: ScriptLog<S>,
+    pub(crate) dial: Dial,
+    pub(crate) control: Control,
 }
 
 impl<S: Spawner> Model for Records<S> {
@@ -37,22 +36,12 @@ impl<S: Spawner> Model for Records<S> {
 
     ghost view = { λ r. record { id = r.id; scripts = r.scripts; dial = r.dial } };
 
-    ghost invariant = { λ r. AreKept r.id r.scripts r.control };
-}
-
-// Whether a signal is no hang-up.
-fn is_stop(word: SignalWord) -> bool
-    ensures { result ≡ nat_le 2 (signal_number word) }
-{
-    match word {
-        SignalWord::Hup => false,
-        SignalWord::Int | SignalWord::Term => true,
-        SignalWord::Usr1 | SignalWord::Usr2 => true,
-    }
+    ghost invariant = { λ r. AreKept r.id r.scripts r.dial r.control };
 }
 
 impl<S: Spawner> Records<S> {
     /// Those of a link that hasn't begun, whose log has room for so many marks.
+    #[tactic(auto, using(crate::proofs::StepLemmas::new_in_step))]
     pub fn new(
         alloc: Global,
         id: LinkId,
@@ -211,9 +200,12 @@ impl<S: Spawner> Records<S> {
     }
 
     /// The mark of a line.
+    #[tactic(auto, using(crate::proofs::StepLemmas::line_in_step))]
     pub fn mark_line(&mut self, time: u64)
         requires room { 0 < room_of self.old.scripts.log }
-        ensures { self.new ≡ marked_with (line_mark time (told self.old).session) self.old }
+        requires lasts { is_session (told self.old).doing ≡ true }
+        ensures new { self.new ≡ marked_with (line_mark time (told self.old).session) self.old }
+        ensures dials { (line : LineWords) → DialStands line self.old → DialStands line self.new }
     {
         self.scripts.put(Mark::line(time, self.control.session));
         self.control.doing = Doing::HasLine;
@@ -223,7 +215,8 @@ impl<S: Spawner> Records<S> {
     pub fn mark_cause(&mut self, cause: Cause, time: u64)
         requires room { 0 < room_of self.old.scripts.log }
         requires table { (1 ≤ cause.number) × (cause.number ≤ 16) }
-        ensures { self.new ≡ marked_with (cause_mark time cause.number cause.detail (told self.old).session) self.old }
+        ensures new { self.new ≡ marked_with (cause_mark time cause.number cause.detail (told self.old).session) self.old }
+        ensures dials { (line : LineWords) → DialStands line self.old → DialStands line self.new }
     {
         self.scripts.put(Mark::cause(time, cause.number, cause.detail, self.control.session));
         self.control.cause = Some(cause);
@@ -232,7 +225,8 @@ impl<S: Spawner> Records<S> {
     /// The mark of LCP's coming to Opened.
     pub fn mark_lcp_open(&mut self, time: u64)
         requires room { 0 < room_of self.old.scripts.log }
-        ensures { self.new ≡ marked_with (lcp_open_mark time ((told self.old).openings + 1)) self.old }
+        ensures new { self.new ≡ marked_with (lcp_open_mark time ((told self.old).openings + 1)) self.old }
+        ensures dials { (line : LineWords) → DialStands line self.old → DialStands line self.new }
     {
         let _count = self.scripts.log().count();
         self.control.openings += 1;
@@ -243,7 +237,8 @@ impl<S: Spawner> Records<S> {
     /// The mark of LCP's leaving Opened.
     pub fn mark_lcp_closed(&mut self, time: u64)
         requires room { 0 < room_of self.old.scripts.log }
-        ensures { self.new ≡ marked_with (lcp_closed_mark time (told self.old).openings) self.old }
+        ensures new { self.new ≡ marked_with (lcp_closed_mark time (told self.old).openings) self.old }
+        ensures dials { (line : LineWords) → DialStands line self.old → DialStands line self.new }
     {
         self.scripts
             .put(Mark::lcp_closed(time, self.control.openings));
@@ -254,6 +249,7 @@ impl<S: Spawner> Records<S> {
         requires room { 0 < room_of self.old.scripts.log }
         ensures new { self.new ≡ marked_with (asked_mark time result) self.old }
         ensures stay { result ≡ (told self.old).stays + 1 }
+        ensures dials { (line : LineWords) → DialStands line self.old → DialStands line self.new }
     {
         let _count = self.scripts.log().count();
         let stay = self.control.stays + 1;
@@ -268,7 +264,8 @@ impl<S: Spawner> Records<S> {
     /// The mark of a stay that is over.
     pub fn mark_left(&mut self, stay: u32, time: u64)
         requires room { 0 < room_of self.old.scripts.log }
-        ensures { self.new ≡ marked_with (left_mark time stay) self.old }
+        ensures new { self.new ≡ marked_with (left_mark time stay) self.old }
+        ensures dials { (line : LineWords) → DialStands line self.old → DialStands line self.new }
     {
         self.scripts.put(Mark::left(time, stay));
         self.control.stay = None;
@@ -279,7 +276,8 @@ impl<S: Spawner> Records<S> {
     /// The mark of a member.
     pub fn mark_member(&mut self, unit: Unit, stay: u32, time: u64)
         requires room { 0 < room_of self.old.scripts.log }
-        ensures { self.new ≡ marked_with (member_mark time unit stay) self.old }
+        ensures new { self.new ≡ marked_with (member_mark time unit stay) self.old }
+        ensures dials { (line : LineWords) → DialStands line self.old → DialStands line self.new }
     {
         self.scripts.put(Mark::member(time, unit, stay));
         self.control.unit = Some(unit);
@@ -288,7 +286,8 @@ impl<S: Spawner> Records<S> {
     /// The mark of a bundle that is live.
     pub fn mark_live(&mut self, unit: Unit, stay: u32, time: u64)
         requires room { 0 < room_of self.old.scripts.log }
-        ensures { self.new ≡ marked_with (live_mark time unit stay) self.old }
+        ensures new { self.new ≡ marked_with (live_mark time unit stay) self.old }
+        ensures dials { (line : LineWords) → DialStands line self.old → DialStands line self.new }
     {
         self.scripts.put(Mark::live(time, unit, stay));
         self.control.live = true;
@@ -298,122 +297,19 @@ impl<S: Spawner> Records<S> {
     /// The mark of a Join that was refused.
     pub fn mark_refused(&mut self, reason: Refusal, stay: u32, time: u64)
         requires room { 0 < room_of self.old.scripts.log }
-        ensures { self.new ≡ marked_with (refused_mark time reason stay) self.old }
+        ensures new { self.new ≡ marked_with (refused_mark time reason stay) self.old }
+        ensures dials { (line : LineWords) → DialStands line self.old → DialStands line self.new }
     {
         self.scripts.put(Mark::refused(time, reason, stay));
     }
 
-    /// The mark of a signal in a session. The dial is told of a stop.
-    pub fn mark_signal(&mut self, word: SignalWord, time: u64)
+    /// The mark of a hang-up signal in a session. The dial isn't told of it.
+    pub fn mark_hup(&mut self, time: u64)
         requires room { 0 < room_of self.old.scripts.log }
         requires lasts { is_session (told self.old).doing ≡ true }
-        ensures new { self.new ≡ record (marked_with (signal_mark time word) self.old) { dial = self.new.dial } }
-        ensures policy { self.new.dial.policy ≡ self.old.dial.policy }
+        ensures new { self.new ≡ marked_with (signal_mark time SignalWord.Hup) self.old }
+        ensures dials { (line : LineWords) → DialStands line self.old → DialStands line self.new }
     {
-        self.scripts.put(Mark::signal(time, word));
-        if is_stop(word) {
-            self.control.is_stopped = true;
-            self.dial.stop();
-        }
-    }
-
-    // The mark of what the dial answered.
-    fn mark_answer(&mut self, answer: DialNow, time: u64)
-        requires room { 0 < room_of self.old.scripts.log }
-        requires time { time ≤ 2 ^ 56 }
-        ensures { self.new ≡ answer_marked answer time self.old }
-    {
-        match answer {
-            DialNow::Nothing => {}
-            DialNow::Begin => self.mark_attempt(time),
-            DialNow::Hold(milliseconds) => {
-                self.scripts.put(Mark::hold(time, milliseconds));
-                self.control.doing = Doing::Holds(time + u64::from(milliseconds));
-            }
-            DialNow::Wait => {
-                self.scripts.put(Mark::wait(time));
-                self.control.doing = Doing::Waits;
-            }
-            DialNow::Finish(status) => {
-                self.scripts.put(Mark::finished(time, status));
-                self.control.doing = Doing::HasFinished(status);
-            }
-        }
-    }
-
-    // The mark of an attempt.
-    fn mark_attempt(&mut self, time: u64)
-        requires room { 0 < room_of self.old.scripts.log }
-        ensures { self.new ≡ marked_with (attempt_mark time ((told self.old).session + 1)) self.old }
-    {
-        let from = self.scripts.log().count();
-        let session = self.control.session + 1;
-        self.scripts.put(Mark::attempt(time, session));
-        self.control.session = session;
-        self.control.doing = Doing::Dials;
-        self.control.cause = None;
-        self.control.was_live = false;
-        self.control.from = from;
-    }
-
-    /// The link begins.
-    pub fn start(&mut self, time: u64) -> DialNow
-        requires room { 0 < room_of self.old.scripts.log }
-        requires time { time ≤ 2 ^ 56 }
-        ensures new { self.new ≡ record (answer_marked result time self.old) { dial = self.new.dial } }
-        ensures policy { self.new.dial.policy ≡ self.old.dial.policy }
-        ensures answer { (line : LineWords) → DialStands line self.old → result ≡ says line Start time self.old }
-        ensures stands { (line : LineWords) → (told self.old).doing ≡ New → DialStands line self.old → DialStands line self.new }
-    {
-        exactly_one_answer();
-        let room = self.scripts.room();
-        let answer = self.dial.start(time, room);
-        self.mark_answer(answer, time);
-        answer
-    }
-
-    /// A packet waits for the link.
-    pub fn wake(&mut self, time: u64) -> DialNow
-        requires room { 0 < room_of self.old.scripts.log }
-        requires time { time ≤ 2 ^ 56 }
-        ensures new { self.new ≡ record (answer_marked result time self.old) { dial = self.new.dial } }
-        ensures policy { self.new.dial.policy ≡ self.old.dial.policy }
-        ensures answer { (line : LineWords) → DialStands line self.old → result ≡ says line Wake time self.old }
-        ensures stands { (line : LineWords) → (told self.old).doing ≡ Waits → DialStands line self.old → DialStands line self.new }
-    {
-        exactly_one_answer();
-        let room = self.scripts.room();
-        let answer = self.dial.wake(time, room);
-        self.mark_answer(answer, time);
-        answer
-    }
-
-    /// The time is looked at.
-    pub fn tick(&mut self, time: u64) -> DialNow
-        requires room { 0 < room_of self.old.scripts.log }
-        requires time { time ≤ 2 ^ 56 }
-        ensures new { self.new ≡ record (answer_marked result time self.old) { dial = self.new.dial } }
-        ensures policy { self.new.dial.policy ≡ self.old.dial.policy }
-        ensures answer { (line : LineWords) → DialStands line self.old → result ≡ says line Tick time self.old }
-        ensures stands { (line : LineWords) (until : ℕ) → (told self.old).doing ≡ Holds until → DialStands line self.old → DialStands line self.new }
-    {
-        exactly_one_answer();
-        let room = self.scripts.room();
-        let answer = self.dial.tick(time, room);
-        self.mark_answer(answer, time);
-        answer
-    }
-
-    /// Authentication closes, if it is open.
-    pub fn close_scripts(&mut self, time: u64)
-        requires room { 2 ≤ room_of self.old.scripts.log }
-        ensures { self.new ≡ record self.old {
-          scripts = record self.old.scripts {
-            machine = record self.old.scripts.machine { facts = closed_facts self.old.scripts.machine.facts };
-            log = log_closed (Link self.old.id) time self.old.scripts.log;
-          };
-        } }
-    {
-        self.scripts.closes(time);
+        self.scripts.put(Mark::signal(time, SignalWord::Hup));
     }
 }

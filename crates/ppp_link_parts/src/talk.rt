@@ -1,13 +1,16 @@
-ghost use Rattle.std.specs.Prelude.{◌≡◌, Option, None, Some, List, ◌∷◌, [], IfSome, IfNone, is_some, option_map};
+ghost use Rattle.std.specs.Prelude.{◌≡◌, Option, None, Some, List, ◌∷◌, ◌++◌, [], IfSome, IfNone, is_some, option_map};
 ghost use Rattle.std.specs.Option.{option_copied};
 ghost use Rattle.ppp_chat.specs.ChatState.{ChatState};
-ghost use Rattle.ppp_chat.specs.Event.{tick_at};
+ghost use Rattle.ppp_chat.specs.Event.{octet_at, tick_at};
+ghost use Rattle.ppp_chat.specs.declared.event.Event.{Event};
+ghost use Rattle.ppp_link_parts.specs.declared.talk.Hears.TheVariants as hears;
 ghost use Rattle.ppp_chat.specs.Script.{ChatScript};
 ghost use Rattle.ppp_link_rules.specs.Ending.{given_up};
 ghost use Rattle.ppp_link_rules.specs.Hearing.{chat_answer};
 ghost use Rattle.ppp_link_rules.specs.LinkState.{Listener, Nobody, Chatting, Framing};
 ghost use Rattle.ppp_link_parts.specs.Talk.{Listens};
 
+use ppp_chat::laws::answers_are_listed;
 use ppp_chat::{Chat, ChatNow, Script};
 use std::marker::Model;
 
@@ -95,6 +98,38 @@ impl Talk {
                 Some(answer)
             }
             None => None,
+        }
+    }
+
+    /// An octet that the chat hears.
+    pub fn octet(&mut self, octet: u8, now: u64) -> ChatNow
+        requires { self.old.who ≡ hears.Chat }
+        ensures stands { (script : Option ChatScript) (calls : List Event) → Listens script self.old (Chatting calls)
+            → Listens script self.new (Chatting (calls ++ octet_at octet now ∷ [])) }
+        ensures answer { (script : Option ChatScript) (calls : List Event) → Listens script self.old (Chatting calls)
+            → result ≡ chat_answer script calls (octet_at octet now) }
+        ensures who { self.new.who ≡ hears.Chat }
+    {
+        answers_are_listed();
+        match &mut self.chat {
+            Some(chat) => chat.octet(octet, now),
+            None => unreachable!(),
+        }
+    }
+
+    /// The chat looks at the time.
+    pub fn tick(&mut self, now: u64) -> ChatNow
+        requires { self.old.who ≡ hears.Chat }
+        ensures stands { (script : Option ChatScript) (calls : List Event) → Listens script self.old (Chatting calls)
+            → Listens script self.new (Chatting (calls ++ tick_at now ∷ [])) }
+        ensures answer { (script : Option ChatScript) (calls : List Event) → Listens script self.old (Chatting calls)
+            → result ≡ chat_answer script calls (tick_at now) }
+        ensures who { self.new.who ≡ hears.Chat }
+    {
+        answers_are_listed();
+        match &mut self.chat {
+            Some(chat) => chat.tick(now),
+            None => unreachable!(),
         }
     }
 }
