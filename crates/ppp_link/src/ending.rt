@@ -8,9 +8,9 @@ ghost use Rattle.ppp_link_rules.specs.Marking.{marked};
 ghost use Rattle.ppp_link_parts.specs.Records.{marked_with, told};
 ghost use Rattle.ppp_link.specs.Stands.{Stands};
 
-use ppp_link_rules::cause::Cause;
 use crate::link_core::LinkCore;
 use ppp_base::DEFAULT_MAP;
+use ppp_link_rules::cause::Cause;
 use ppp_outside::{Dialer, Spawner};
 
 impl<D: Dialer, S: Spawner> LinkCore<D, S> {

@@ -27,6 +27,8 @@ mod writing;
 pub use dial_job::{DialDone, DialJob};
 pub use link::Link;
 pub use piece::Piece;
+pub use ppp_link_rules::{
+    Cause, Errand, FrameCounts, LinkView, ReadEnd, SentEnd, auth_config, dial_policy, lcp_wish,
+};
 pub use reading::{ReadOver, ReadStep, Reading};
 pub use writing::{Sent, Writing};
-pub use ppp_link_rules::{Cause, Errand, FrameCounts, LinkView, ReadEnd, SentEnd, auth_config, dial_policy, lcp_wish};

@@ -3,9 +3,9 @@ ghost use Rattle.ppp_outside.specs.Counts.{raised};
 ghost use Rattle.ppp_link.specs.ErrandValues.{IsReadEnd};
 ghost use Rattle.ppp_link.specs.Reading.{Reads};
 
-use ppp_link_rules::errand::ReadEnd;
 use crate::piece::Piece;
 use ppp_base::{LinkId, Octets};
+use ppp_link_rules::errand::ReadEnd;
 use ppp_outside::{LineGot, LineIn, ScriptedLine};
 use std::marker::Model;
 

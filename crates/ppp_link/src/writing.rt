@@ -1,8 +1,8 @@
 ghost use Rattle.std.specs.Prelude.{◌≡◌, ℕ, ◌<◌, ◌≤◌, ◌-◌, length, take, drop, IfSome};
 ghost use Rattle.ppp_link.specs.ErrandValues.{HasSent, IsSentEnd};
 
-use ppp_link_rules::errand::SentEnd;
 use ppp_base::{LinkId, Octets};
+use ppp_link_rules::errand::SentEnd;
 use ppp_outside::{ScriptedSink, Sink, SinkNext, Took};
 use std::marker::Model;
 
