@@ -1,5 +1,1 @@
 mod OneLineLemmas
-mod StandsLemmas
-mod AnswerLemmas
-mod CallLemmas
-mod BeginLemmas

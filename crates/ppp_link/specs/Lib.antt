@@ -1,9 +1,3 @@
 pub mod ErrandValues
 pub mod Reading
 pub mod OneLine
-pub mod Half
-pub mod DialDesk
-pub mod LinkNow
-pub mod Stands
-pub mod Taking
-pub mod Calling

@@ -5,27 +5,15 @@
 //! `LinkPart` of the crate `ppp_link_rules` says what each of the nine events makes of a link.
 #![tactic(auto)]
 
-mod dial_desk;
 mod dial_job;
-mod dialling;
-mod ending;
-mod half;
 pub mod laws;
-mod lcp_calls;
-mod line_input;
-mod link;
-mod link_core;
 mod piece;
 mod reading;
-mod sending;
-mod showing;
-mod taking;
 #[cfg(test)]
 mod tests;
 mod writing;
 
 pub use dial_job::{DialDone, DialJob};
-pub use link::Link;
 pub use piece::Piece;
 pub use ppp_link_rules::{
     Cause, Errand, FrameCounts, LinkView, ReadEnd, SentEnd, auth_config, dial_policy, lcp_wish,
