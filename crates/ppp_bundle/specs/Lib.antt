@@ -5,8 +5,6 @@ pub use Rattle.ppp_hooks.specs.HookWords
 pub use Rattle.ppp_mark.specs.Log
 pub use Rattle.ppp_mark.specs.ScriptLog
 pub use Rattle.ppp_mark.specs.Scripts
-pub mod Acts
-pub mod Bare
 pub mod Member
 pub mod State
 pub mod ScriptParts

@@ -1,33 +1,11 @@
-use crate::bare::Bare;
 use crate::{Bundle, BundleEvent, UnitWish};
 use ppp_base::{Allow, Datagram, LinkId, Name, Unit};
-use ppp_fsm::{FsmEvent, Limits};
+use ppp_fsm::Limits;
 use ppp_ipcp::IpWish;
 use ppp_mark::Mark;
 use ppp_outside::ReplaySpawner;
 use ppp_secrets::{Secrets, SecretsPair};
 use std::test::Fail;
-
-#[test]
-fn the_log_has_a_start_behind_its_cause(rt: HostRuntime) -> Result<(), Fail> {
-    let mut bare = Bare::new(rt.alloc(), ReplaySpawner::new())?;
-    for event in [
-        FsmEvent::Open,
-        FsmEvent::Up,
-        FsmEvent::RcrGood,
-        FsmEvent::Rca,
-    ] {
-        if bare.log().room() >= 3 {
-            let _acts = bare.apply(event);
-        }
-    }
-    let log = bare.log();
-    assert_eq!(rt; log.get(0), Some(Mark::ip_open(0, 1)));
-    assert_eq!(rt; log.get(1), Some(Mark::started(0, true, 1)));
-    assert_eq!(rt; log.get(2), None);
-    assert_eq!(rt; bare.take_job().map(|job| job.number()), Some(1));
-    Ok(())
-}
 
 // A plain wish: we are 10.0.0.1 and the peer is 10.0.0.2.
 fn wish() -> UnitWish {
@@ -64,7 +42,7 @@ fn a_unit_makes_a_bundle_and_counts_what_it_drops(rt: HostRuntime) -> Result<(),
         BundleEvent::Make {
             number: 1,
             maker,
-            wish: wish(),
+            wish: wish().copy(),
             mrru: None,
             allow: Allow::Any,
         },
@@ -77,6 +55,9 @@ fn a_unit_makes_a_bundle_and_counts_what_it_drops(rt: HostRuntime) -> Result<(),
     }
     assert_eq!(rt; unit.counts().not_open, 1);
     assert_eq!(rt; unit.opened(), false);
+    assert_eq!(rt; unit.openings(), 0);
+    assert_eq!(rt; unit.bundles(), 1);
+    assert_eq!(rt; unit.member(0).is_none(), true);
     assert_eq!(rt; unit.running(), None);
     assert_eq!(rt; unit.ended_by(), None);
     assert_eq!(rt; unit.take_job().is_none(), true);

@@ -18,8 +18,8 @@ use Rattle.ppp_trace.specs.declared.step.BareStep.{BareStep}
 use Rattle.ppp_trace.specs.declared.step.BareStep.TheVariants.{Event, End}
 use Rattle.ppp_replay.specs.BareRun.{BareRun, Headline, KeepsScripts, after_step, run_from, run_of, run_start, runs_job}
 use Rattle.ppp_replay.proofs.PlayerLemmas.{job_is}
-use Rattle.ppp_bundle.proofs.ActLemmas.{after_layer_acts}
-use Rattle.ppp_bundle.specs.Acts.{after_acts}
+use Rattle.ppp_bare.proofs.ActLemmas.{after_layer_acts}
+use Rattle.ppp_bare.specs.Acts.{after_acts}
 
 -- a past that is lawful and settled, whose protocol is open as said
 pub record Goes (past : List HookMark) (is_open : Bool) : Type 0 where

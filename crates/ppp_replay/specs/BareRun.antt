@@ -1,7 +1,7 @@
 -- The run of a bare trace: one automaton (RFC 1661, section 4) with its ip scripts (pppd(8), "Scripts").
 use Rattle.std.specs.Prelude.{ℕ, ◌==◌, Bool, nat_eq, Some, List, [], ◌∷◌, take, reverse, if◌then◌else◌}
 use Rattle.std.specs.Option.{option_eq}
-use Rattle.ppp_bundle.specs.Acts.{after_acts}
+use Rattle.ppp_bare.specs.Acts.{after_acts}
 use Rattle.ppp_fsm.specs.Fsm.{Automaton, acts_of, after}
 use Rattle.ppp_hooks.specs.HookLaw.{HookLaw}
 use Rattle.ppp_hooks.specs.HookMark.{HookMark, Ended}

@@ -1,7 +1,7 @@
 ghost use Rattle.std.specs.Prelude.{◌≡◌, ◌+◌, ◌<◌, ◌≤◌, IfOk, option_map};
 
+use ppp_bare::{Bare, MOST_MARKS};
 use ppp_base::NoMemory;
-use ppp_bundle::{Bare, MOST_MARKS};
 use ppp_fsm::{Acts, FsmEvent};
 use ppp_hooks::{HookJob, HookStart};
 use ppp_outside::{ReplaySpawner, ScriptEnd};
@@ -19,7 +19,7 @@ impl Model for Player {
     ghost use Rattle.std.specs.Prelude.{◌==◌, length};
     ghost use Rattle.ppp_mark.specs.Scripts.{said_in};
     ghost use Rattle.ppp_replay.specs.Player.{IsOut, PlayerState};
-    ghost use Rattle.ppp_bundle.specs.Bare.{IsBare};
+    ghost use Rattle.ppp_bare.specs.Bare.{IsBare};
 
     ghost Value = { PlayerState };
 

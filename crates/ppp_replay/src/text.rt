@@ -3,7 +3,7 @@ ghost use Rattle.std.specs.Bool.{OnFalse, OnTrue};
 ghost use Rattle.ppp_outside.specs.Writing.{Breaks, Puts, Writes};
 ghost use Rattle.ppp_replay.specs.BareRun.{after_step, run_start};
 ghost use Rattle.ppp_replay.specs.BareText.{acts_text, bare_text, line_of, running_text, start_text, told_text};
-ghost use Rattle.ppp_bundle.specs.declared.bare.TheConstants.{MOST_MARKS};
+ghost use Rattle.ppp_bare.specs.declared.bare.TheConstants.{MOST_MARKS};
 ghost use Rattle.ppp_trace.specs.declared.TheConstants.{MOST_STEPS};
 
 use crate::act_names::name;

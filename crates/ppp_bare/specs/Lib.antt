@@ -1,0 +1,9 @@
+pub use Rattle.ppp_fsm.specs.Fsm
+pub use Rattle.ppp_hooks.specs.HookPast
+pub use Rattle.ppp_hooks.specs.HookRule
+pub use Rattle.ppp_hooks.specs.HookWords
+pub use Rattle.ppp_mark.specs.Log
+pub use Rattle.ppp_mark.specs.ScriptLog
+pub use Rattle.ppp_mark.specs.Scripts
+pub mod Acts
+pub mod Bare
