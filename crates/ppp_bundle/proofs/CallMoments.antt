@@ -23,12 +23,13 @@ use Rattle.ppp_bundle.specs.declared.member.Member.{Member}
 use Rattle.ppp_bundle.specs.declared.outbox.Sending.{Sending}
 use Rattle.ppp_bundle.specs.declared.wish.UnitWish.{UnitWish}
 use Rattle.ppp_bundle.specs.History.{Moment, Calls, Terms, asked_in, by_peer_after, calls_in, entered_in, is_up_after, is_up_in, packets_of, was_up_after, whole_by}
-use Rattle.ppp_bundle.specs.IpCalls.{args_of, around_of, call_of, finished, followed, has_finished, ip_left, is_rtr, live_left, live_tells, or_none, sends_all, turned}
+use Rattle.ppp_bundle.specs.IpCalls.{args_of, around_of, call_of, finished, followed, has_finished, ip_left, is_rtr, live_left, live_tells, or_none, turned}
 use Rattle.ppp_bundle.specs.Lives.{CutsAll, GathersAll, HasMember, Reached}
 use Rattle.ppp_bundle.specs.Member.{views_of}
 use Rattle.ppp_bundle.specs.ScriptParts.{opened, shut}
-use Rattle.ppp_bundle.specs.Sends.{left_by_sending, sending, sent_as, whole_on}
+use Rattle.ppp_bundle.specs.Sends.{all_sent, left_by_all, left_by_sending, sending, sent_as, whole_on}
 use Rattle.ppp_bundle.specs.State.{UnitState, is_up}
+use Rattle.ppp_bundle.proofs.CallFacts.{all_left, all_sent_is, plain_left, whole_all}
 use Rattle.ppp_bundle.proofs.SessionFacts.{exact}
 
 -- two tests
@@ -53,33 +54,21 @@ was_up : (wish : UnitWish) (calls : List IpcpCall) → is_up_after wish calls �
 was_up wish [] e = absurd (let f : false ≡ true = e in cc)
 was_up wish (c ∷ calls) e = or_of (is_up_after wish (c ∷ calls)) (was_up_after wish calls) e
 
--- what is sent on the one member
-abbrev pub sent_all : List Member → List Packet → List Sending → List Sending
-sent_all members [] sent = sent
-sent_all members (p ∷ packets) sent = sent_all members packets (sent ++ whole_on members IPCP (laid_packet p))
-
 pub one_sent : {S : Type 0} (m : Option MrruPair) (l : Live) (protocol : ℕ) (information : List ℕ) (u : UnitState S) → m ≡ None
     → record u { sent = u.sent ++ sent_as l m protocol information; live = Some (left_by_sending l m protocol information) } ≡ record u { sent = u.sent ++ whole_on l.members protocol information; live = Some l }
 one_sent None l protocol information u e = refl
 one_sent (Some mrru) l protocol information u e = absurd (let f : Some mrru ≡ None = e in cc)
 
-sends_all_is : {S : Type 0} (packets : List Packet) (u : UnitState S) (l : Live) → l.mrru ≡ None
-    → sends_all packets (record u { live = Some l }) ≡ record u { live = Some l; sent = sent_all l.members packets u.sent }
-sends_all_is [] u l e = refl
-sends_all_is {S = S} (p ∷ packets) u l e =
-    ap (λ (v : UnitState S). sends_all packets v) (one_sent l.mrru l IPCP (laid_packet p) u e)
-    ∙ sends_all_is packets (record u { sent = u.sent ++ whole_on l.members IPCP (laid_packet p) }) l e
-
 abbrev pub head_link : List MemberView → ℕ
 head_link [] = 0
 head_link (v ∷ views) = v.link
 
-sent_none : (packets : List Packet) (sent : List Sending) → sent_all [] packets sent ≡ sent ++ []
+sent_none : (packets : List Packet) (sent : List Sending) → whole_all [] packets sent ≡ sent ++ []
 sent_none [] sent = sym (append-nil sent)
 sent_none (p ∷ packets) sent = sent_none packets (sent ++ []) ∙ ap (λ (x : List Sending). x ++ []) (append-nil sent)
 
 sent_one : (m : Member) (members : List Member) (v : MemberView) (packets : List Packet) (sent : List Sending) → m.link ≡ v.link
-    → sent_all (m ∷ members) packets sent ≡ sent ++ whole_by (Some v) (packets_of packets)
+    → whole_all (m ∷ members) packets sent ≡ sent ++ whole_by (Some v) (packets_of packets)
 sent_one m members v [] sent e = sym (append-nil sent)
 sent_one m members v (p ∷ packets) sent e =
     sent_one m members v packets (sent ++ sending m.link IPCP (laid_packet p) ∷ []) e
@@ -87,7 +76,7 @@ sent_one m members v (p ∷ packets) sent e =
     ∙ ap (λ (link : ℕ). sent ++ sending link IPCP (laid_packet p) ∷ whole_by (Some v) (packets_of packets)) e
 
 pub sent_all_is : (members : List Member) (entered : Option MemberView) (packets : List Packet) (sent : List Sending) → views_of members ≡ option_to_list entered
-    → sent_all members packets sent ≡ sent ++ whole_by entered (packets_of packets)
+    → whole_all members packets sent ≡ sent ++ whole_by entered (packets_of packets)
 sent_all_is [] None packets sent e = sent_none packets sent
 sent_all_is [] (Some v) packets sent e = absurd (let f : [] ≡ v ∷ [] = e in cc)
 sent_all_is (m ∷ members) None packets sent e = absurd (let f : record { link = m.link; mru = m.mru } ∷ views_of members ≡ [] = e in cc)
@@ -129,15 +118,17 @@ target_turned true true args time s = refl
 abbrev pub turned_unit : {S : Type 0} → Bool → Live → StepOut → UnitState S → UnitState S
 turned_unit was l out u = record u {
   scripts = scripts_turned was (is_up l) (args_then u.unit l) u.time u.scripts;
-  live = Some (live_turned was (is_up l) u.time l);
-  sent = sent_all l.members out.packets u.sent;
+  live = Some (live_turned was (is_up l) u.time (record l { pieces = (left_by_all l out.packets).pieces }));
+  sent = all_sent l out.packets u.sent;
 }
 
-pub followed_is : {S : Type 0} (was : Bool) (l : Live) (out : StepOut) (u : UnitState S) → l.mrru ≡ None
+pub followed_is : {S : Type 0} (was : Bool) (l : Live) (out : StepOut) (u : UnitState S)
     → followed was l out u ≡ finished (has_finished out.acts) l.by_peer (turned_unit was l out u)
-followed_is {S = S} was l out u e =
-    ap (λ (v : UnitState S). finished (has_finished out.acts) l.by_peer (turned was (is_up l) v)) (sends_all_is out.packets u l e)
-    ∙ ap (λ (v : UnitState S). finished (has_finished out.acts) l.by_peer v) (turned_is was (is_up l) (record u { sent = sent_all l.members out.packets u.sent }) l)
+followed_is {S = S} was l out u =
+    let w : UnitState S = record u { sent = all_sent l out.packets u.sent } in
+    ap (λ (v : UnitState S). finished (has_finished out.acts) l.by_peer (turned was (is_up l) v))
+    (all_sent_is out.packets u l u.sent ∙ ap (λ (x : Live). record w { live = Some x }) (all_left out.packets l))
+    ∙ ap (λ (v : UnitState S). finished (has_finished out.acts) l.by_peer v) (turned_is was (is_up l) w (record l { pieces = (left_by_all l out.packets).pieces }))
 
 -- what was reached
 abbrev pub call_made : SecretsPair → ℕ → IpCall → Live → IpcpCall
@@ -173,14 +164,19 @@ some_call : (m : Option MrruPair) (members : List Member) (c : IpcpCall) (past :
 some_call None members c past h = h
 some_call (Some mrru) members c past h = h
 
-cuts_call : (terms : Terms) (m : Option MrruPair) (pieces : SendingNow) (c : IpcpCall) (past : List Moment) → m ≡ None → CutsAll terms m pieces past → CutsAll terms m pieces (Calls c ∷ past)
-cuts_call terms None pieces c past e h = h
-cuts_call terms (Some mrru) pieces c past e h = absurd (let f : Some mrru ≡ None = e in cc)
+cuts_call : (terms : Terms) (m : Option MrruPair) (pieces pieces' : SendingNow) (c : IpcpCall) (past : List Moment) → m ≡ None → pieces' ≡ pieces → CutsAll terms m pieces past → CutsAll terms m pieces' (Calls c ∷ past)
+cuts_call terms None pieces pieces' c past e same h = same ∙ h
+cuts_call terms (Some mrru) pieces pieces' c past e same h = absurd (let f : Some mrru ≡ None = e in cc)
+
+-- the bundle after a call and what it sends
+abbrev pub live_sent : SecretsPair → ℕ → IpCall → Live → Live
+live_sent secrets time call l =
+    let l1 = live_left secrets time call l in record l1 { pieces = (left_by_all l1 (live_tells secrets time call l).packets).pieces }
 
 pub reached_call : (terms : Terms) (past : List Moment) (secrets : SecretsPair) (call : IpCall) (rest : List (Call Around)) (time : ℕ) (gather : GatherNow) (l : Live)
     → terms.mrru ≡ None → Reached terms time gather l past → asked_in terms past ≡ call_of (around_of secrets l) call ∷ rest
     → (entered_in past ≡ None → ip_left (around_of secrets l) time call l.ipcp ≡ session_after terms.wish.ip [])
-    → Reached terms time gather (live_turned (is_up l) (is_up (live_left secrets time call l)) time (live_left secrets time call l)) (Calls (call_made secrets time call l) ∷ past)
+    → Reached terms time gather (live_turned (is_up l) (is_up (live_left secrets time call l)) time (live_sent secrets time call l)) (Calls (call_made secrets time call l) ∷ past)
 reached_call terms past secrets call rest time gather l plain r asked quiet =
     let c : IpcpCall = call_made secrets time call l in
     let stands = exact (around_of secrets l) time call l.ipcp terms.wish.ip (calls_in past) r.ipcp in
@@ -190,7 +186,8 @@ reached_call terms past secrets call rest time gather l plain r asked quiet =
       order = (record { rest = rest; asked = asked; now = r.time_is }, r.order);
       ipcp = stands;
       gathers = gathers_call terms.mrru gather c past r.gathers;
-      cuts = cuts_call terms terms.mrru l.pieces c past plain r.cuts;
+      cuts = cuts_call terms terms.mrru l.pieces _ c past plain
+          (ap (λ (x : Live). x.pieces) (plain_left (live_tells secrets time call l).packets (live_left secrets time call l) (r.mrru ∙ plain))) r.cuts;
       members = r.members;
       some = some_call terms.mrru l.members c past r.some;
       initial = quiet;

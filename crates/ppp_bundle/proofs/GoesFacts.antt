@@ -1,10 +1,7 @@
 -- A plain bundle goes on with its history by each step, and begins with none.
-use Rattle.std.proofs.Common.{◌≡◌, inl, ◌≤◌, Option, None, Some, List, [], ◌∷◌, ◌++◌, length, refl, ap, sym, subst, ◌∙◌, arith}
+use Rattle.std.proofs.Common.{◌≡◌, inl, ℕ, ◌≤◌, Option, None, Some, List, [], ◌∷◌, ◌++◌, length, refl, ap, sym, subst, ◌∙◌, arith}
 use Rattle.std.specs.Prelude.{IfSome, option_to_list}
 use Rattle.ppp_base.specs.declared.hook_target.HookTarget.TheVariants.{Unit as OfUnit}
-use Rattle.ppp_base.specs.declared.stepped.Stepped.{Stepped}
-use Rattle.ppp_base.specs.declared.stepped.Stepped.TheVariants.{Taken, Stale}
-use Rattle.ppp_base.specs.Stepped.{OnTaken}
 use Rattle.ppp_base.specs.Mrru.{MrruPair}
 use Rattle.ppp_ipcp.specs.declared.wish.IpWish.{IpWish}
 use Rattle.ppp_ipcp.specs.Session.{StandsFor as IpcpStandsFor, session_after}
@@ -19,7 +16,7 @@ use Rattle.ppp_bundle.specs.declared.outbox.BundleEnd.{BundleEnd}
 use Rattle.ppp_bundle.specs.declared.outbox.Ending.{Ending}
 use Rattle.ppp_bundle.specs.Closing.{closed_if, closed_of, crowded_end, looked}
 use Rattle.ppp_bundle.specs.History.{Moment, Terms, entered_in, whole_in}
-use Rattle.ppp_bundle.specs.Lives.{CutsAll, GathersAll, GoesOn, GoesOnAll, HasBegun, HasHistory, HasMember, IsUnit, Lives, LivesOrEnds, SendsSince, own_of, terms_of}
+use Rattle.ppp_bundle.specs.Lives.{CutsAll, GathersAll, GoesOn, HasBegun, HasHistory, HasMember, Lives, LivesOrEnds, SendsSince, own_of, terms_of}
 use Rattle.ppp_bundle.specs.Member.{stay_of, views_of}
 use Rattle.ppp_bundle.specs.Replay.{since_made}
 use Rattle.ppp_bundle.specs.State.{UnitState, members_of}
@@ -157,7 +154,7 @@ has_begun secrets (HookOver done) u plain target = tt
 
 -- WITHOUT A BUNDLE
 
-none_if : {S : Type 0} (found : Option Ending) (u : UnitState S) → u.live ≡ None → (closed_if found u).live ≡ None
+pub none_if : {S : Type 0} (found : Option Ending) (u : UnitState S) → u.live ≡ None → (closed_if found u).live ≡ None
 none_if None u e = e
 none_if (Some end) u e = ap (λ (o : Option Live). (closed_of o end u).live) e ∙ e
 
@@ -171,6 +168,15 @@ none_after secrets (Frame link protocol information) u may e = refl
 none_after secrets (Datagram datagram) u may e = refl
 none_after secrets (Tick now) u may e = refl
 none_after secrets (HookOver done) u may e = refl
+
+pub none_then : {S : Type 0} (secrets : SecretsPair) (event : BundleEvent S) (packets : List (List ℕ)) (u : UnitState S) → terms_of event u ≡ None → (after_event secrets event packets (record u { live = None })).live ≡ None
+none_then secrets (Make number maker wish mrru allow) packets u e = absurd (let f : Some (record { wish = wish; allow = allow; mrru = mrru; made_at = u.time }) ≡ None = e in cc)
+none_then secrets (In link stay mru) packets u e = refl
+none_then secrets (Out link stay) packets u e = refl
+none_then secrets (Frame link protocol information) packets u e = refl
+none_then secrets (Datagram datagram) packets u e = refl
+none_then secrets (Tick now) packets u e = refl
+none_then secrets (HookOver done) packets u e = refl
 
 -- HISTORIES FROM STEP TO STEP
 
@@ -209,34 +215,22 @@ without_bundle {S = S} secrets event u None e live plain may target =
     terms_same (Tick now) u e = e
     terms_same (HookOver done) u e = e
 
-with_bundle : {S : Type 0} (secrets : SecretsPair) (event : BundleEvent S) (u : UnitState S) (l : Live) → u.live ≡ Some l → IsUnit u → MayCome event u → u.sent ≡ [] → u.given ≡ []
+with_bundle : {S : Type 0} (secrets : SecretsPair) (event : BundleEvent S) (u : UnitState S) (l : Live) → u.live ≡ Some l → l.mrru ≡ None → HasHistory (since_made u.scripts.log.past) u.time u.gather l
+    → u.scripts.machine.target ≡ OfUnit u.unit → MayCome event u → u.sent ≡ [] → u.given ≡ []
     → let v = plain_step secrets event u in IfSome v.live (HasHistory (since_made v.scripts.log.past) v.time v.gather)
-with_bundle {S = S} secrets event u l live unit may sent given =
+with_bundle {S = S} secrets event u l live plain h target may sent given =
     let v : UnitState S = plain_step secrets event u in
-    let h = at_some u.live l (HasHistory (since_made u.scripts.log.past) u.time u.gather) live unit.history in
-    let plain : h.terms.mrru ≡ None = sym h.lives.reached.mrru ∙ at_some u.live l (λ x. x.mrru ≡ None) live unit.sound.agrees.plain in
-    let g = goes_on h.terms h.past secrets event u l live unit.sound.agrees.target h.lives sent given may plain in
+    let g = goes_on h.terms h.past secrets event u l live target h.lives sent given may (sym h.lives.reached.mrru ∙ plain) in
     history_of h.terms (g.since ++ h.past) v v.live v.ended g.goes
 
-pub history_step : {S : Type 0} (secrets : SecretsPair) (event : BundleEvent S) (u : UnitState S) (o : Option Live) → u.live ≡ o → IsUnit u → IsPlainEvent event → MayCome event u → u.sent ≡ [] → u.given ≡ []
+pub history_step : {S : Type 0} (secrets : SecretsPair) (event : BundleEvent S) (u : UnitState S) (o : Option Live) → u.live ≡ o → IfSome o (λ l. (l.mrru ≡ None) × HasHistory (since_made u.scripts.log.past) u.time u.gather l)
+    → IsPlainEvent event → u.scripts.machine.target ≡ OfUnit u.unit → MayCome event u → u.sent ≡ [] → u.given ≡ []
     → let v = plain_step secrets event u in IfSome v.live (HasHistory (since_made v.scripts.log.past) v.time v.gather)
-history_step secrets event u None live unit plain may sent given = without_bundle secrets event u (terms_of event u) refl live plain may unit.sound.agrees.target
-history_step secrets event u (Some l) live unit plain may sent given = with_bundle secrets event u l live unit may sent given
+history_step secrets event u None live h plain target may sent given = without_bundle secrets event u (terms_of event u) refl live plain may target
+history_step secrets event u (Some l) live h plain target may sent given = with_bundle secrets event u l live h.0 h.1 target may sent given
 
-goes_all : {S : Type 0} (secrets : SecretsPair) (event : BundleEvent S) (u : UnitState S) (o : Option Live) → u.live ≡ o → IsUnit u → MayCome event u → u.sent ≡ [] → u.given ≡ []
+pub goes_all : {S : Type 0} (secrets : SecretsPair) (event : BundleEvent S) (u : UnitState S) (o : Option Live) → u.live ≡ o → IfSome o (λ l. l.mrru ≡ None) → u.scripts.machine.target ≡ OfUnit u.unit → MayCome event u → u.sent ≡ [] → u.given ≡ []
     → (terms : Terms) (past : List Moment) → IfSome o (λ l. Lives terms (since_made u.scripts.log.past) u.time u.gather l past → GoesOn terms past secrets event u (plain_step secrets event u))
-goes_all secrets event u None live unit may sent given terms past = tt
-goes_all secrets event u (Some l) live unit may sent given terms past = λ lives.
-    goes_on terms past secrets event u l live unit.sound.agrees.target lives sent given may (sym lives.reached.mrru ∙ at_some u.live l (λ x. x.mrru ≡ None) live unit.sound.agrees.plain)
-
-pub goes_after : {S : Type 0} (result : Stepped (BundleEvent S)) (secrets : SecretsPair) (event : BundleEvent S) (old new : UnitState S) → IsUnit old → MayCome event old → old.sent ≡ [] → old.given ≡ []
-    → OnTaken result (new ≡ after_step secrets event (record { gather = old.gather; packets = [] }) old) → OnTaken result (GoesOnAll secrets event old new)
-goes_after {S = S} Taken secrets event old new unit may sent given is =
-    subst (λ (v : UnitState S). GoesOnAll secrets event old v) (sym is) (goes_all secrets event old old.live refl unit may sent given)
-goes_after (Stale back) secrets event old new unit may sent given is = tt
-
-pub begun_after : {S : Type 0} (result : Stepped (BundleEvent S)) (secrets : SecretsPair) (event : BundleEvent S) (old new : UnitState S) → IsUnit old → IsPlainEvent event
-    → OnTaken result (new ≡ after_step secrets event (record { gather = old.gather; packets = [] }) old) → OnTaken result (HasBegun event old new)
-begun_after {S = S} Taken secrets event old new unit plain is =
-    subst (λ (v : UnitState S). HasBegun event old v) (sym is) (has_begun secrets event old plain unit.sound.agrees.target)
-begun_after (Stale back) secrets event old new unit plain is = tt
+goes_all secrets event u None live plain target may sent given terms past = tt
+goes_all secrets event u (Some l) live plain target may sent given terms past = λ lives.
+    goes_on terms past secrets event u l live target lives sent given may (sym lives.reached.mrru ∙ plain)

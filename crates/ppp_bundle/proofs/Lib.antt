@@ -3,6 +3,12 @@ pub mod EndFacts
 pub mod SoundFacts
 pub mod PlainFacts
 pub mod MemberFacts
+pub mod OutboxFacts
+pub mod SendFacts
+pub mod CallFacts
+pub mod MemberSteps
+pub mod ReadyFacts
+pub mod AskFacts
 pub mod ReplayFacts
 pub mod LogFacts
 pub mod CountFacts

@@ -23,6 +23,7 @@ use Rattle.ppp_bundle.specs.IpCalls.{around_of, call_of, called, finish_of, fini
 use Rattle.ppp_bundle.specs.Lives.{HasMember, Reached}
 use Rattle.ppp_bundle.specs.Member.{views_of}
 use Rattle.ppp_bundle.specs.State.{UnitState, is_up}
+use Rattle.ppp_bundle.proofs.CallFacts.{plain_sent}
 use Rattle.ppp_bundle.proofs.CallMoments.{args_then, at_turn, call_made, followed_is, reached_call, sent_all_is, target_turned, turned_unit}
 use Rattle.ppp_bundle.proofs.CloseMoments.{Over, closed_over}
 
@@ -138,9 +139,9 @@ has_plain (Some mrru) members past e h = absurd (let f : Some mrru ≡ None = e 
 abbrev pub after_call : {S : Type 0} → SecretsPair → IpCall → Live → UnitState S → UnitState S
 after_call secrets call l u = turned_unit (is_up l) (live_left secrets u.time call l) (live_tells secrets u.time call l) u
 
-pub call_is : {S : Type 0} (secrets : SecretsPair) (call : IpCall) (l : Live) (u : UnitState S) → l.mrru ≡ None
+pub call_is : {S : Type 0} (secrets : SecretsPair) (call : IpCall) (l : Live) (u : UnitState S)
     → called secrets call (record u { live = Some l }) ≡ finished (has_finished (live_tells secrets u.time call l).acts) (live_left secrets u.time call l).by_peer (after_call secrets call l u)
-call_is secrets call l u e = followed_is (is_up l) (live_left secrets u.time call l) (live_tells secrets u.time call l) (record u { live = Some l }) e
+call_is secrets call l u = followed_is (is_up l) (live_left secrets u.time call l) (live_tells secrets u.time call l) (record u { live = Some l })
 
 -- a call by a unit whose live bundle is l
 pub call_mid : {S : Type 0} (terms : Terms) (past : List Moment) (secrets : SecretsPair) (call : IpCall) (rest : List (Call Around)) (l : Live) (u : UnitState S)
@@ -154,7 +155,7 @@ call_mid {S = S} terms past secrets call rest l u plain target ended r asked qui
     let c : IpcpCall = call_made secrets u.time call l in
     let r2 = reached_call terms past secrets call rest u.time u.gather l plain r asked quiet in
     let v : UnitState S = after_call secrets call l u in
-    subst (λ (x : UnitState S). Mid terms (Calls c ∷ past) rest x ⊎ Over terms (Calls c ∷ past) x) (sym (call_is secrets call l u (r.mrru ∙ plain)))
+    subst (λ (x : UnitState S). Mid terms (Calls c ∷ past) rest x ⊎ Over terms (Calls c ∷ past) x) (sym (call_is secrets call l u))
     (finishes terms (Calls c ∷ past) rest v _ (has_finished (live_tells secrets u.time call l).acts) (live_left secrets u.time call l).by_peer
     refl plain (target_turned (is_up l) (is_up (live_left secrets u.time call l)) (args_then u.unit (live_left secrets u.time call l)) u.time u.scripts ∙ target) ended r2
     (ap rest_only asked) refl (sym r2.by_peer) none)
@@ -166,7 +167,7 @@ call_mid {S = S} terms past secrets call rest l u plain target ended r asked qui
 pub call_calm : {S : Type 0} (secrets : SecretsPair) (call : IpCall) (l : Live) (u : UnitState S) → l.mrru ≡ None → Calm (record u { live = Some l }) → Calm (called secrets call (record u { live = Some l }))
 call_calm {S = S} secrets call l u e calm =
     let l1 : Live = live_left secrets u.time call l in
-    subst (λ (x : UnitState S). Calm x) (sym (call_is secrets call l u e))
+    subst (λ (x : UnitState S). Calm x) (sym (call_is secrets call l u))
     (finished_calm (has_finished (live_tells secrets u.time call l).acts) l1.by_peer (after_call secrets call l u)
     (record {
       idle = turned_calm (is_up l) (is_up l1) Idle l.wish.idle_s u.time l.passed_at calm.idle;
@@ -175,7 +176,7 @@ call_calm {S = S} secrets call l u e calm =
 
 pub call_time : {S : Type 0} (secrets : SecretsPair) (call : IpCall) (l : Live) (u : UnitState S) → l.mrru ≡ None → (called secrets call (record u { live = Some l })).time ≡ u.time
 call_time {S = S} secrets call l u e =
-    ap (λ (x : UnitState S). x.time) (call_is secrets call l u e)
+    ap (λ (x : UnitState S). x.time) (call_is secrets call l u)
     ∙ (keeps_finished (has_finished (live_tells secrets u.time call l).acts) (live_left secrets u.time call l).by_peer (after_call secrets call l u)).time
 
 nothing_given : (up : Bool) (given : List (List ℕ)) → given ++ (if up then [] else []) ≡ given
@@ -190,9 +191,9 @@ call_flows {S = S} terms since past counts secrets call l u plain r flows =
     let out : StepOut = live_tells secrets u.time call l in
     let now : List Moment = since ++ past in
     let sent = sent_all_is l.members (entered_in now) out.packets u.sent (has_plain terms.mrru l.members now plain r.some) in
-    subst (λ (x : UnitState S). Flows terms (Calls (call_made secrets u.time call l) ∷ since) past counts x) (sym (call_is secrets call l u (r.mrru ∙ plain)))
+    subst (λ (x : UnitState S). Flows terms (Calls (call_made secrets u.time call l) ∷ since) past counts x) (sym (call_is secrets call l u))
     (record {
-      sends = ap (λ (x : List Sending). whole_in terms past ++ x) (k.sent ∙ sent)
+      sends = ap (λ (x : List Sending). whole_in terms past ++ x) (k.sent ∙ plain_sent out.packets (live_left secrets u.time call l) u.sent (r.mrru ∙ plain) ∙ sent)
           ∙ sym (append_assoc (whole_in terms past) u.sent (whole_by (entered_in now) (packets_of out.packets)))
           ∙ ap (λ (x : List Sending). x ++ whole_by (entered_in now) (packets_of out.packets)) flows.sends;
       gives = ap (λ (x : List (List ℕ)). given_in terms past ++ x) k.given ∙ flows.gives ∙ sym (nothing_given (is_up_in terms now) (given_in terms now));

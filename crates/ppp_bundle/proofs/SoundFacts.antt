@@ -17,18 +17,18 @@ use Rattle.ppp_bundle.specs.Sound.{Adds, Agrees, Goes, IsGoing, IsSound, owed, o
 use Rattle.ppp_bundle.specs.State.{UnitState, is_open}
 use Rattle.ppp_bundle.specs.UnitPart.{script_over}
 
-if_some : {T : Type 0} (o : Option T) (P : Type 0) → P → IfSome o (λ x. P)
+pub if_some : {T : Type 0} (o : Option T) (P : Type 0) → P → IfSome o (λ x. P)
 if_some None P p = tt
 if_some (Some x) P p = p
 
-by_none : {T : Type 0} (o : Option T) (P : T → Type 0) → o ≡ None → IfSome o P
+pub by_none : {T : Type 0} (o : Option T) (P : T → Type 0) → o ≡ None → IfSome o P
 by_none None P e = tt
 by_none (Some x) P e = absurd (let f : Some x ≡ None = e in cc)
 
 none_some : {T : Type 0} (o : Option T) (x : T) → o ≡ Some x → o ≡ None → ⊥
 none_some o x e f = absurd (let g : Some x ≡ None = sym e ∙ f in cc)
 
-at_some : {T : Type 0} (o : Option T) (x : T) (P : T → Type 0) → o ≡ Some x → IfSome o P → P x
+pub at_some : {T : Type 0} (o : Option T) (x : T) (P : T → Type 0) → o ≡ Some x → IfSome o P → P x
 at_some {T = T} o x P e h = subst (λ (y : Option T). IfSome y P) e h
 
 pub owed_most : (f : HookFacts) → owed f ≤ 4

@@ -18,7 +18,7 @@ use Rattle.ppp_outside.specs.declared.spawner.ScriptEnd.{ScriptEnd}
 use Rattle.ppp_bundle.specs.MayStand.{MayStandHere, Stands}
 use Rattle.ppp_bundle.specs.Replay.{bundles_in}
 
-not_kind : {P : Type 0} (a b : ℕ) → (a == b) ≡ false → a ≡ b → P
+pub not_kind : {P : Type 0} (a b : ℕ) → (a == b) ≡ false → a ≡ b → P
 not_kind a b e f = absurd (grind (arith, nat_tests))
 
 -- a mark of another kind
@@ -33,27 +33,27 @@ quiet_mark past m a b c d e f = record {
   unmade = not_kind m.kind UNMADE f;
 }
 
-pub started_stands : (number : Option ℕ) (stays : ℕ → Option ℕ) (closing : Bool) (past : List Mark) (time : ℕ) (up : Bool) (n : ℕ) → Stands number stays closing past → Stands number stays closing (started_mark time up n ∷ past)
+pub started_stands : {bundles : ℕ} (number : Option ℕ) (stays : ℕ → Option ℕ) (closing : Bool) (past : List Mark) (time : ℕ) (up : Bool) (n : ℕ) → Stands bundles number stays closing past → Stands bundles number stays closing (started_mark time up n ∷ past)
 started_stands number stays closing past time up n s =
-    record { all = (quiet_mark past (started_mark time up n) refl refl refl refl refl refl, s.all); bundle = s.bundle; stays_are = s.stays_are; closing_is = s.closing_is; openings = s.openings }
+    record { all = (quiet_mark past (started_mark time up n) refl refl refl refl refl refl, s.all); made_are = s.made_are; bundle = s.bundle; stays_are = s.stays_are; closing_is = s.closing_is; openings = s.openings }
 
-pub due_stands : (number : Option ℕ) (stays : ℕ → Option ℕ) (closing : Bool) (past : List Mark) (due : Bool) (start : Option (Bool × ℕ)) (time : ℕ) → Stands number stays closing past
-    → Stands number stays closing (marks_at time (cond due (start_marks start) []) ++ past)
+pub due_stands : {bundles : ℕ} (number : Option ℕ) (stays : ℕ → Option ℕ) (closing : Bool) (past : List Mark) (due : Bool) (start : Option (Bool × ℕ)) (time : ℕ) → Stands bundles number stays closing past
+    → Stands bundles number stays closing (marks_at time (cond due (start_marks start) []) ++ past)
 due_stands number stays closing past true None time s = s
 due_stands number stays closing past true (Some x) time s = started_stands number stays closing past time x.0 x.1 s
 due_stands number stays closing past false start time s = s
 
-pub ended_stands : (number : Option ℕ) (stays : ℕ → Option ℕ) (closing : Bool) (past : List Mark) (time : ℕ) (answer : ScriptEnd) (job : ℕ) → Stands number stays closing past
-    → Stands number stays closing (ended_mark time answer job ∷ past)
+pub ended_stands : {bundles : ℕ} (number : Option ℕ) (stays : ℕ → Option ℕ) (closing : Bool) (past : List Mark) (time : ℕ) (answer : ScriptEnd) (job : ℕ) → Stands bundles number stays closing past
+    → Stands bundles number stays closing (ended_mark time answer job ∷ past)
 ended_stands number stays closing past time answer job s =
-    record { all = (quiet_mark past (ended_mark time answer job) refl refl refl refl refl refl, s.all); bundle = s.bundle; stays_are = s.stays_are; closing_is = s.closing_is; openings = s.openings }
+    record { all = (quiet_mark past (ended_mark time answer job) refl refl refl refl refl refl, s.all); made_are = s.made_are; bundle = s.bundle; stays_are = s.stays_are; closing_is = s.closing_is; openings = s.openings }
 
-closed_stands : (number : Option ℕ) (stays : ℕ → Option ℕ) (closing : Bool) (past : List Mark) (time n : ℕ) → Stands number stays closing past → Stands number stays closing (ip_closed_mark time n ∷ past)
+closed_stands : {bundles : ℕ} (number : Option ℕ) (stays : ℕ → Option ℕ) (closing : Bool) (past : List Mark) (time n : ℕ) → Stands bundles number stays closing past → Stands bundles number stays closing (ip_closed_mark time n ∷ past)
 closed_stands number stays closing past time n s =
-    record { all = (quiet_mark past (ip_closed_mark time n) refl refl refl refl refl refl, s.all); bundle = s.bundle; stays_are = s.stays_are; closing_is = s.closing_is; openings = s.openings }
+    record { all = (quiet_mark past (ip_closed_mark time n) refl refl refl refl refl refl, s.all); made_are = s.made_are; bundle = s.bundle; stays_are = s.stays_are; closing_is = s.closing_is; openings = s.openings }
 
 -- IP opens
-opens_stands : (number : ℕ) (stays : ℕ → Option ℕ) (past : List Mark) (time : ℕ) → Stands (Some number) stays false past → Stands (Some number) stays false (ip_open_mark time (greatest_in (said_in past) + 1) ∷ past)
+opens_stands : {bundles : ℕ} (number : ℕ) (stays : ℕ → Option ℕ) (past : List Mark) (time : ℕ) → Stands bundles (Some number) stays false past → Stands bundles (Some number) stays false (ip_open_mark time (greatest_in (said_in past) + 1) ∷ past)
 opens_stands number stays past time s = record {
   all = (
     record {
@@ -66,24 +66,26 @@ opens_stands number stays past time s = record {
     },
     s.all,
   );
+  made_are = s.made_are;
   bundle = s.bundle;
   stays_are = s.stays_are;
   closing_is = s.closing_is;
   openings = ap (λ (n : ℕ). n + 1) s.openings;
 }
 
-addresses_stand : (number : Option ℕ) (stays : ℕ → Option ℕ) (closing : Bool) (past : List Mark) (time : ℕ) (args : HookArgs) → Stands number stays closing past
-    → Stands number stays closing (remote_mark time args.remote ∷ local_mark time args.local ∷ past)
+addresses_stand : {bundles : ℕ} (number : Option ℕ) (stays : ℕ → Option ℕ) (closing : Bool) (past : List Mark) (time : ℕ) (args : HookArgs) → Stands bundles number stays closing past
+    → Stands bundles number stays closing (remote_mark time args.remote ∷ local_mark time args.local ∷ past)
 addresses_stand number stays closing past time args s = record {
   all = (quiet_mark (local_mark time args.local ∷ past) (remote_mark time args.remote) refl refl refl refl refl refl, (quiet_mark past (local_mark time args.local) refl refl refl refl refl refl, s.all));
+  made_are = s.made_are;
   bundle = s.bundle;
   stays_are = s.stays_are;
   closing_is = s.closing_is;
   openings = s.openings;
 }
 
-pub opened_stands : (target : HookTarget) (unit : ℕ) (number : ℕ) (stays : ℕ → Option ℕ) (time : ℕ) (args : HookArgs) (log : LogState) → target ≡ OfUnit unit → Stands (Some number) stays false log.past
-    → Stands (Some number) stays false (with_addresses time args (log_opened target time log)).past
+pub opened_stands : {bundles : ℕ} (target : HookTarget) (unit : ℕ) (number : ℕ) (stays : ℕ → Option ℕ) (time : ℕ) (args : HookArgs) (log : LogState) → target ≡ OfUnit unit → Stands bundles (Some number) stays false log.past
+    → Stands bundles (Some number) stays false (with_addresses time args (log_opened target time log)).past
 opened_stands (OfUnit u) unit number stays time args log e s =
     let past = ip_open_mark time (next_opening log) ∷ log.past in
     addresses_stand (Some number) stays false _ time args
@@ -91,8 +93,8 @@ opened_stands (OfUnit u) unit number stays time args log e s =
 opened_stands (Link l) unit number stays time args log e s = absurd (cc e)
 
 -- IP closes, after which it isn't open
-pub record Shut (number : Option ℕ) (stays : ℕ → Option ℕ) (closing : Bool) (past : List Mark) : Type 0 where
-  pub stands : Stands number stays closing past
+pub record Shut (bundles : ℕ) (number : Option ℕ) (stays : ℕ → Option ℕ) (closing : Bool) (past : List Mark) : Type 0 where
+  pub stands : Stands bundles number stays closing past
   pub shut : open_in (said_in past) ≡ None
 
 due_shut : (due : Bool) (start : Option (Bool × ℕ)) (time : ℕ) (past : List Mark) → open_in (said_in past) ≡ None → open_in (said_in (marks_at time (cond due (start_marks start) []) ++ past)) ≡ None
@@ -100,8 +102,8 @@ due_shut true None time past e = e
 due_shut true (Some x) time past e = e
 due_shut false start time past e = e
 
-pub shut_stands : (target : HookTarget) (n : Option ℕ) (unit : ℕ) (number : Option ℕ) (stays : ℕ → Option ℕ) (closing : Bool) (time : ℕ) (log : LogState) → target ≡ OfUnit unit → open_in (said_in log.past) ≡ n
-    → Stands number stays closing log.past → Shut number stays closing (log_closed_at target time n log).past
+pub shut_stands : {bundles : ℕ} (target : HookTarget) (n : Option ℕ) (unit : ℕ) (number : Option ℕ) (stays : ℕ → Option ℕ) (closing : Bool) (time : ℕ) (log : LogState) → target ≡ OfUnit unit → open_in (said_in log.past) ≡ n
+    → Stands bundles number stays closing log.past → Shut bundles number stays closing (log_closed_at target time n log).past
 shut_stands target None unit number stays closing time log e f s = record { stands = s; shut = f }
 shut_stands (OfUnit u) (Some n) unit number stays closing time log e f s =
     let past = ip_closed_mark time n ∷ log.past in
@@ -112,7 +114,7 @@ shut_stands (OfUnit u) (Some n) unit number stays closing time log e f s =
 shut_stands (Link l) (Some n) unit number stays closing time log e f s = absurd (cc e)
 
 -- the marks of bundles and members
-pub close_stands : (number : ℕ) (stays : ℕ → Option ℕ) (past : List Mark) (time : ℕ) (cause : CloseCause) (elapsed : ℕ) → Stands (Some number) stays false past → Stands (Some number) stays true (close_mark time cause elapsed ∷ past)
+pub close_stands : {bundles : ℕ} (number : ℕ) (stays : ℕ → Option ℕ) (past : List Mark) (time : ℕ) (cause : CloseCause) (elapsed : ℕ) → Stands bundles (Some number) stays false past → Stands bundles (Some number) stays true (close_mark time cause elapsed ∷ past)
 close_stands number stays past time cause elapsed s = record {
   all = (
     record {
@@ -125,14 +127,15 @@ close_stands number stays past time cause elapsed s = record {
     },
     s.all,
   );
+  made_are = s.made_are;
   bundle = s.bundle;
   stays_are = s.stays_are;
   closing_is = refl;
   openings = s.openings;
 }
 
-pub out_stands : (number : Option ℕ) (stays : ℕ → Option ℕ) (closing : Bool) (past : List Mark) (time link stay : ℕ) → Shut number stays closing past → stays link ≡ Some stay
-    → Shut number (λ x. if link == x then None else stays x) closing (out_mark time link stay ∷ past)
+pub out_stands : {bundles : ℕ} (number : Option ℕ) (stays : ℕ → Option ℕ) (closing : Bool) (past : List Mark) (time link stay : ℕ) → Shut bundles number stays closing past → stays link ≡ Some stay
+    → Shut bundles number (λ x. if link == x then None else stays x) closing (out_mark time link stay ∷ past)
 out_stands number stays closing past time link stay s e = record {
   stands = record {
     all = (
@@ -146,6 +149,7 @@ out_stands number stays closing past time link stay s e = record {
       },
       s.stands.all,
     );
+    made_are = s.stands.made_are;
     bundle = s.stands.bundle;
     stays_are = λ x. ap (λ (o : Option ℕ). if link == x then None else o) (s.stands.stays_are x);
     closing_is = s.stands.closing_is;
@@ -154,8 +158,8 @@ out_stands number stays closing past time link stay s e = record {
   shut = s.shut;
 }
 
-pub unmade_stands : (number : ℕ) (stays : ℕ → Option ℕ) (closing : Bool) (past : List Mark) (time : ℕ) → Shut (Some number) stays closing past → ((link : ℕ) → stays link ≡ None)
-    → Stands None (λ x. None) false (unmade_mark time number ∷ past)
+pub unmade_stands : {bundles : ℕ} (number : ℕ) (stays : ℕ → Option ℕ) (closing : Bool) (past : List Mark) (time : ℕ) → Shut bundles (Some number) stays closing past → ((link : ℕ) → stays link ≡ None)
+    → Stands bundles None (λ x. None) false (unmade_mark time number ∷ past)
 unmade_stands number stays closing past time s e = record {
   all = (
     record {
@@ -168,13 +172,14 @@ unmade_stands number stays closing past time s e = record {
     },
     s.stands.all,
   );
+  made_are = s.stands.made_are;
   bundle = refl;
   stays_are = λ x. s.stands.stays_are x ∙ e x;
   closing_is = refl;
   openings = s.stands.openings;
 }
 
-pub made_stands : (stays : ℕ → Option ℕ) (past : List Mark) (time maker number : ℕ) → Stands None stays false past → number ≡ bundles_in 0 past + 1 → Stands (Some number) stays false (made_mark time maker number ∷ past)
+pub made_stands : {bundles : ℕ} (stays : ℕ → Option ℕ) (past : List Mark) (time maker number : ℕ) → Stands bundles None stays false past → number ≡ bundles_in 0 past + 1 → Stands number (Some number) stays false (made_mark time maker number ∷ past)
 made_stands stays past time maker number s e = record {
   all = (
     record {
@@ -187,14 +192,15 @@ made_stands stays past time maker number s e = record {
     },
     s.all,
   );
+  made_are = sym e;
   bundle = refl;
   stays_are = s.stays_are;
   closing_is = refl;
   openings = s.openings;
 }
 
-pub in_stands : (number : ℕ) (stays : ℕ → Option ℕ) (past : List Mark) (time link stay : ℕ) → Stands (Some number) stays false past → stays link ≡ None
-    → Stands (Some number) (λ x. if link == x then Some stay else stays x) false (in_mark time link stay ∷ past)
+pub in_stands : {bundles : ℕ} (number : ℕ) (stays : ℕ → Option ℕ) (past : List Mark) (time link stay : ℕ) → Stands bundles (Some number) stays false past → stays link ≡ None
+    → Stands bundles (Some number) (λ x. if link == x then Some stay else stays x) false (in_mark time link stay ∷ past)
 in_stands number stays past time link stay s e = record {
   all = (
     record {
@@ -207,6 +213,7 @@ in_stands number stays past time link stay s e = record {
     },
     s.all,
   );
+  made_are = s.made_are;
   bundle = s.bundle;
   stays_are = λ x. in_is (link == x) (s.stays_are x);
   closing_is = s.closing_is;

@@ -1,6 +1,7 @@
 -- What comes to a bundle: frames of links, packets that were gathered of pieces, and datagrams for the peer.
-use Rattle.std.specs.Prelude.{ℕ, ◌+◌, ◌-◌, ◌*◌, ◌%◌, ◌^◌, ◌==◌, ◌||◌, min, nat_lt, nat_le, Option, None, Some, List, [], ◌∷◌, ◌++◌, length, if◌then◌else◌}
+use Rattle.std.specs.Prelude.{ℕ, ◌+◌, ◌*◌, ◌%◌, ◌==◌, ◌||◌, nat_lt, nat_le, Option, None, Some, List, [], ◌∷◌, ◌++◌, length, if◌then◌else◌}
 use Rattle.ppp_base.specs.Mrru.{MrruPair}
+use Rattle.ppp_base.specs.RingAfter.{one_more}
 use Rattle.ppp_base.specs.declared.protocol.TheConstants.{IP, IPCP, LCP}
 use Rattle.ppp_packet.specs.declared.packet.Packet.{Packet}
 use Rattle.ppp_packet.specs.PacketOf.{packet_in}
@@ -13,9 +14,6 @@ use Rattle.ppp_bundle.specs.Sends.{rejection, sends}
 use Rattle.ppp_bundle.specs.State.{UnitState, is_open, members_of, most_to_peer}
 
 -- Counts stand still at the end of a u64.
-abbrev pub one_more : ℕ → ℕ
-one_more n = min (n + 1) (2 ^ 64 - 1)
-
 abbrev pub not_open : {S : Type 0} → UnitState S → UnitState S
 not_open u = record u { counts = record u.counts { not_open = one_more u.counts.not_open } }
 
@@ -60,13 +58,13 @@ pub record Inner : Type 0 where
 abbrev pub inner : ℕ → List ℕ → Inner
 inner protocol information = record { protocol = protocol; information = information }
 
+abbrev pub inner_of_two : (first : ℕ) → List ℕ → Option Inner
+inner_of_two first [] = None
+inner_of_two first (second ∷ rest) = if second % 2 == 1 then Some (inner (first * 256 + second) rest) else None
+
 abbrev pub inner_of : List ℕ → Option Inner
 inner_of [] = None
-inner_of (first ∷ []) = if first % 2 == 1 then Some (inner first []) else None
-inner_of (first ∷ second ∷ rest) =
-    if first % 2 == 1 then Some (inner first (second ∷ rest))
-    else if second % 2 == 1 then Some (inner (first * 256 + second) rest)
-    else None
+inner_of (first ∷ rest) = if first % 2 == 1 then Some (inner first rest) else inner_of_two first rest
 
 abbrev pub most_of_ours : Option MrruPair → ℕ
 most_of_ours None = 0

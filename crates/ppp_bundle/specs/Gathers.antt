@@ -18,9 +18,10 @@ pub record Gathered : Type 0 where
   pub gather : GatherNow
   pub packets : List (List ℕ)
 
--- whatever it stood for, it stands for this entry more, and has given these packets by it
-abbrev pub AddsEntry : GatherNow → Entry → Gathered → Type 0
-AddsEntry old entry g = (past : List Entry) (s : Gathering) → StandsFor long_space old past s → Adds long_space g.gather past s entry g.packets
+-- our MRRU stays, and whatever it stood for, it stands for this entry more, and has given these packets by it
+pub record AddsEntry (old : GatherNow) (entry : Entry) (g : Gathered) : Type 0 where
+  pub ours : g.gather.mrru ≡ old.mrru
+  pub stands : (past : List Entry) (s : Gathering) → StandsFor long_space old past s → Adds long_space g.gather past s entry g.packets
 
 pub record Begins (mrru : ℕ) (g : Gathered) : Type 0 where
   pub stands : StandsFor long_space g.gather [] (nothing long_space)
@@ -29,6 +30,7 @@ pub record Begins (mrru : ℕ) (g : Gathered) : Type 0 where
 
 pub record TakesPiece (link : ℕ) (information : List ℕ) (old : GatherNow) (g : Gathered) : Type 0 where
   pub answer : PieceNow
+  pub ours : g.gather.mrru ≡ old.mrru
   pub short : length information < long_octets → (g.gather ≡ with_looks 0 old) × (g.packets ≡ [])
   pub stands : (past : List Entry) (s : Gathering) → StandsFor long_space old past s → long_octets ≤ length information
       → AddsPiece long_space g.gather past s link (fragment_of long_space long_octets information) answer g.packets

@@ -6,6 +6,7 @@ use Rattle.ppp_base.specs.declared.posts.CloseCause.{CloseCause}
 use Rattle.ppp_base.specs.declared.posts.CloseCause.TheVariants.{Idle, ConnectTime, IpcpFailed, EndedByPeer, TooManyChanges}
 use Rattle.ppp_base.specs.declared.protocol.TheConstants.{IP, IPCP, MULTILINK}
 use Rattle.ppp_base.specs.Mrru.{MrruPair}
+use Rattle.ppp_base.specs.RingAfter.{one_more}
 use Rattle.ppp_control.specs.Past.{automaton_after}
 use Rattle.ppp_control.specs.Rules.{Call, by_itself, opens, comes_up, ticks, hears, happened_in}
 use Rattle.ppp_ipcp.specs.Around.{Around, around}
@@ -21,7 +22,7 @@ use Rattle.ppp_bundle.specs.declared.outbox.Sending.{Sending}
 use Rattle.ppp_bundle.specs.declared.outbox.UnitCounts.{UnitCounts}
 use Rattle.ppp_bundle.specs.declared.wish.UnitWish.{UnitWish}
 use Rattle.ppp_bundle.specs.Closing.{most_elapsed}
-use Rattle.ppp_bundle.specs.Frames.{Inner, inner, inner_of, most_of_ours, one_more}
+use Rattle.ppp_bundle.specs.Frames.{Inner, inner, inner_of, most_of_ours}
 use Rattle.ppp_bundle.specs.IpCalls.{has_finished, is_rtr}
 use Rattle.ppp_bundle.specs.Sends.{packet_of, sending}
 

@@ -9,7 +9,8 @@ use Rattle.ppp_ipcp.specs.Session.{StandsFor as IpcpStandsFor, session_after}
 use Rattle.ppp_mark.specs.declared.mark.Mark.{Mark}
 use Rattle.ppp_mark.specs.declared.kind.TheConstants.{CLOSE, MADE}
 use Rattle.ppp_mark.specs.Marks.{close_detail, close_elapsed, close_mark}
-use Rattle.ppp_mp.specs.Delivered.{Gathering}
+use Rattle.ppp_mp.specs.Delivered.{Entry, Gathering}
+use Rattle.ppp_mp.specs.Membership.{is_member_in as was_member_in}
 use Rattle.ppp_mp.specs.Header.{long_octets, long_space}
 use Rattle.ppp_mp.specs.Schedule.{HasSent, SendingNow, SentPiece}
 use Rattle.ppp_mp.specs.StandsFor.{GatherNow, StandsFor as GatherStandsFor}
@@ -20,8 +21,8 @@ use Rattle.ppp_bundle.specs.declared.live.Live.{Live}
 use Rattle.ppp_bundle.specs.declared.member.Member.{Member}
 use Rattle.ppp_bundle.specs.declared.outbox.BundleEnd.{BundleEnd}
 use Rattle.ppp_bundle.specs.History.{Moment, Enters, Goes, Brings, Gathered, Carries, Passes, Calls, Terms, HasReason, InOrder, asked_in, by_peer_after, calls_in, counts_in, cuts_in, entered_in, entries_in, gathered_in, given_in, is_member_in, mru_in, opened_in, passed_in, time_in, was_up_after, whole_in}
-use Rattle.ppp_bundle.specs.MayStand.{UnitStands}
-use Rattle.ppp_bundle.specs.Member.{is_link, views_of}
+use Rattle.ppp_bundle.specs.MayStand.{UnitStands, kind_of}
+use Rattle.ppp_bundle.specs.Member.{has_link, is_link, views_of}
 use Rattle.ppp_bundle.specs.Replay.{since_made}
 use Rattle.ppp_bundle.specs.Sound.{IsSound}
 use Rattle.ppp_bundle.specs.State.{UnitState}
@@ -164,8 +165,25 @@ pub record HasHistory (marks time : ℕ) (gather : GatherNow) (l : Live) : Type 
   pub past : List Moment
   pub lives : Lives terms marks time gather l past
 
+-- The gatherer of a multilink bundle stands for some joins, leaves and pieces, by which the members are those of the bundle, and has its MRRU.
+pub record GathersFor (mrru : MrruPair) (gather : GatherNow) (members : List Member) : Type 0 where
+  pub past : List Entry
+  pub state : Gathering
+  pub stands : GatherStandsFor long_space gather past state
+  pub ours : gather.mrru ≡ mrru.ours
+  pub members_are : (link : ℕ) → was_member_in link past ≡ has_link link members
+
+abbrev pub GathersAlways : Option MrruPair → GatherNow → List Member → Type 0
+GathersAlways None gather members = ⊤
+GathersAlways (Some mrru) gather members = GathersFor mrru gather members
+
+-- So far this is known of plain bundles.
+abbrev pub HasPlainHistory : {S : Type 0} → UnitState S → Type 0
+HasPlainHistory u = IfSome u.live (λ l. l.mrru ≡ None → HasHistory (since_made u.scripts.log.past) u.time u.gather l)
+
 -- What stays so of a unit from step to step, beside what it answers.
 pub record IsUnit {S : Type 0} (u : UnitState S) : Type 0 where
   pub sound : IsSound u
-  pub history : IfSome u.live (HasHistory (since_made u.scripts.log.past) u.time u.gather)
-  pub marks : UnitStands u
+  pub history : HasPlainHistory u
+  pub gathers : IfSome u.live (λ l. GathersAlways l.mrru u.gather l.members)
+  pub marks : UnitStands (kind_of u) u

@@ -1,12 +1,15 @@
 -- Where the marks of bundles and members may stand in a unit's log, by the marks before them, the newest first.
-use Rattle.std.specs.Prelude.{ℕ, ◌+◌, ◌≡◌, ◌≢◌, ◌⊎◌, ◌==◌, ◌||◌, ⊤, Bool, true, false, if◌then◌else◌, Option, None, Some, IsSome, IfSome, List, [], ◌∷◌, length, ◌≤◌}
+use Rattle.std.specs.Prelude.{ℕ, ◌+◌, ◌≡◌, ◌≢◌, ◌⊎◌, ◌==◌, ◌||◌, ⊤, Bool, true, false, if◌then◌else◌, Option, None, Some, IsSome, IfSome, List, [], ◌∷◌}
 use Rattle.ppp_hooks.specs.HookPast.{greatest_in, open_in}
+use Rattle.ppp_base.specs.Mrru.{MrruPair}
 use Rattle.ppp_mark.specs.declared.mark.Mark.{Mark}
 use Rattle.ppp_mark.specs.declared.kind.TheConstants.{CLOSE, IN, IP_OPEN, MADE, OUT, UNMADE}
 use Rattle.ppp_mark.specs.Scripts.{said_in}
 use Rattle.ppp_bundle.specs.Replay.{bundle_in, bundles_in, openings_in, stay_in}
+use Rattle.ppp_mp.specs.StandsFor.{GatherNow}
 use Rattle.ppp_bundle.specs.declared.live.Live.{Live}
-use Rattle.ppp_bundle.specs.Member.{stay_of}
+use Rattle.ppp_bundle.specs.declared.member.Member.{Member}
+use Rattle.ppp_bundle.specs.Member.{AreInOrder, stay_of}
 use Rattle.ppp_bundle.specs.State.{UnitState, members_of}
 use Rattle.ppp_base.specs.declared.hook_target.HookTarget.TheVariants.{Unit as OfUnit}
 
@@ -35,9 +38,11 @@ abbrev pub AllMayStand : List Mark → Type 0
 AllMayStand [] = ⊤
 AllMayStand (m ∷ past) = MayStandHere past m × AllMayStand past
 
--- What a log says: the bundle that lives, who is a member, and whether it is being closed; and each of its marks stands where it may.
-pub record Stands (number : Option ℕ) (stays : ℕ → Option ℕ) (closing : Bool) (past : List Mark) : Type 0 where
+-- What a log says: how many bundles were made, the one that lives, who is a member, and whether it is being closed; and each of its marks stands where it
+-- may.
+pub record Stands (bundles : ℕ) (number : Option ℕ) (stays : ℕ → Option ℕ) (closing : Bool) (past : List Mark) : Type 0 where
   pub all : AllMayStand past
+  pub made_are : bundles_in 0 past ≡ bundles
   pub bundle : bundle_in past ≡ number
   pub stays_are : (link : ℕ) → stay_in link past ≡ stays link
   pub closing_is : is_closing_in past ≡ closing
@@ -47,9 +52,26 @@ abbrev pub number_of : Option Live → Option ℕ
 number_of None = None
 number_of (Some l) = Some l.number
 
--- What the log of a unit says is what it keeps, and each mark stands where it may.
-pub record UnitStands {S : Type 0} (u : UnitState S) : Type 0 where
-  pub stands : Stands (number_of u.live) (λ x. stay_of x (members_of u.live)) false u.scripts.log.past
-  pub few : length (members_of u.live) ≤ 1
+-- what a step keeps of a bundle, but where its event is about it, and of the gatherer
+pub record Kind : Type 0 where
+  pub mrru : Option MrruPair
+  pub members : List Member
+  pub gather : GatherNow
+
+abbrev pub mrru_of : Option Live → Option MrruPair
+mrru_of None = None
+mrru_of (Some l) = l.mrru
+
+abbrev pub kind_of : {S : Type 0} → UnitState S → Kind
+kind_of u = record { mrru = mrru_of u.live; members = members_of u.live; gather = u.gather }
+
+abbrev pub IsKind : Kind → Live → Type 0
+IsKind k l = (l.mrru ≡ k.mrru) × (l.members ≡ k.members)
+
+-- What the log of a unit says is what it keeps, and each mark stands where it may; and its bundle, where one lives, and its gatherer are these.
+pub record UnitStands {S : Type 0} (k : Kind) (u : UnitState S) : Type 0 where
+  pub stands : Stands u.bundles (number_of u.live) (λ x. stay_of x (members_of u.live)) false u.scripts.log.past
+  pub order : AreInOrder 0 (members_of u.live)
   pub target : u.scripts.machine.target ≡ OfUnit u.unit
-  pub plain : IfSome u.live (λ l. l.mrru ≡ None)
+  pub kind : IfSome u.live (IsKind k)
+  pub gather_is : u.gather ≡ k.gather

@@ -1,5 +1,5 @@
 -- The members of a bundle, in link order.
-use Rattle.std.specs.Prelude.{ℕ, ◌==◌, ◌<◌, ◌≤◌, ⊤, nat_lt, not, Bool, Option, None, Some, List, [], ◌∷◌, ◌++◌, filter, map, if◌then◌else◌}
+use Rattle.std.specs.Prelude.{ℕ, suc, ◌==◌, ◌<◌, ◌≤◌, ⊤, nat_lt, not, Bool, Option, None, Some, List, [], ◌∷◌, ◌++◌, filter, map, if◌then◌else◌}
 use Rattle.std.specs.List.{list_any}
 use Rattle.ppp_mp.specs.declared.members.MemberView.{MemberView}
 use Rattle.ppp_bundle.specs.declared.member.Member.{Member}
@@ -12,6 +12,11 @@ is_link link m = m.link == link
 
 abbrev pub has_link : ℕ → List Member → Bool
 has_link link members = list_any (is_link link) members
+
+-- how many have lesser links
+abbrev pub below : ℕ → List Member → ℕ
+below link [] = 0
+below link (m ∷ members) = if nat_lt m.link link then suc (below link members) else below link members
 
 -- A member comes in at its place in link order.
 abbrev pub with_member : Member → List Member → List Member

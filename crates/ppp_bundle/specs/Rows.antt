@@ -2,7 +2,7 @@
 use Rattle.std.specs.Prelude.{ℕ, ◌≤◌, true, false, Some, None, List, [], ◌∷◌}
 use Rattle.ppp_base.specs.declared.allow.Allow.TheVariants.{Any}
 use Rattle.ppp_base.specs.declared.hook_target.HookTarget.TheVariants.{Unit as OfUnit}
-use Rattle.ppp_base.specs.declared.protocol.TheConstants.{IPCP}
+use Rattle.ppp_base.specs.declared.protocol.TheConstants.{IPCP, MULTILINK}
 use Rattle.ppp_fsm.specs.declared.fsm.Limits.{Limits}
 use Rattle.ppp_hooks.specs.HookFacts.{no_facts}
 use Rattle.ppp_mark.specs.declared.mark.Mark.{Mark}
@@ -13,6 +13,7 @@ use Rattle.ppp_outside.specs.declared.spawner.ScriptEnd.TheVariants.{Exit}
 use Rattle.ppp_secrets.specs.declared.secrets.SecretsPair.{SecretsPair}
 use Rattle.ppp_bundle.specs.declared.event.BundleEvent.{BundleEvent}
 use Rattle.ppp_bundle.specs.declared.event.BundleEvent.TheVariants.{Make, In, Frame, HookOver}
+use Rattle.ppp_bundle.specs.declared.outbox.Sending.{Sending}
 use Rattle.ppp_bundle.specs.declared.wish.UnitWish.{UnitWish}
 use Rattle.ppp_bundle.specs.State.{UnitState}
 use Rattle.ppp_bundle.specs.UnitPart.{after_step}
@@ -58,6 +59,7 @@ fresh gather = record {
   unit = 0;
   time = 0;
   scripts = record { machine = record { target = OfUnit 0; facts = no_facts; spawner = Some silent }; log = no_marks 4096 };
+  bundles = 0;
   live = None;
   gather = gather;
   sent = [];
@@ -105,3 +107,11 @@ script_ends job = HookOver (record { target = OfUnit 0; number = job; not_starte
 -- The peer's Terminate-Request.
 abbrev pub peer_ends : BundleEvent Silent
 peer_ends = ipcp (5 ∷ 9 ∷ 0 ∷ 4 ∷ [])
+
+-- A multilink bundle is made, and links 1 and 2 come in.
+abbrev pub begins_with_two : Lawful → Limits → List (BundleEvent Silent)
+begins_with_two lawful limits = Make 1 1 (wish lawful limits 0 0) (Some (record { ours = 1500; theirs = 1500 })) Any ∷ In 1 1 1500 ∷ In 2 1 1500 ∷ []
+
+-- a piece to a link: B, E and the number's three octets, and what stands behind them
+abbrev pub piece : (link marks number : ℕ) → List ℕ → Sending
+piece link marks number octets = record { link = link; protocol = MULTILINK; information = marks ∷ 0 ∷ 0 ∷ number ∷ octets; rejected = false }

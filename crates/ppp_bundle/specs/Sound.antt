@@ -48,7 +48,6 @@ pub record Agrees {S : Type 0} (u : UnitState S) : Type 0 where
   pub opened : is_some (is_open_in u.scripts) ≡ is_open u.live
   pub since : IfSome u.live (λ l. length u.scripts.log.past ≡ l.made_at + since_made u.scripts.log.past)
   pub room : IfSome u.live (λ l. l.made_at + 1024 ≤ u.scripts.log.limit)
-  pub plain : IfSome u.live (λ l. l.mrru ≡ None)
   pub fits : IfSome u.live Fits
   pub says : LogSays u.scripts
   pub bundle : option_map (λ (l : Live). l.number) u.live ≡ bundle_in u.scripts.log.past
@@ -63,7 +62,6 @@ pub record IsTurning {S : Type 0} (was is : Bool) (u : UnitState S) : Type 0 whe
   pub is_now : is_open u.live ≡ is
   pub since : IfSome u.live (λ l. length u.scripts.log.past ≡ l.made_at + since_made u.scripts.log.past)
   pub room : IfSome u.live (λ l. l.made_at + 1024 ≤ u.scripts.log.limit)
-  pub plain : IfSome u.live (λ l. l.mrru ≡ None)
   pub fits : IfSome u.live Fits
   pub says : LogSays u.scripts
   pub bundle : option_map (λ (l : Live). l.number) u.live ≡ bundle_in u.scripts.log.past
@@ -98,4 +96,10 @@ pub record Goes {S : Type 0} (most : ℕ) (old new : UnitState S) : Type 0 where
 pub record IsGoing {S : Type 0} (u : UnitState S) : Type 0 where
   pub agrees : Agrees u
   pub left : IfSome u.live (λ l. 40 ≤ room_of u.scripts.log)
+  pub owes : u.live ≡ None → owed u.scripts.machine.facts + 2 ≤ room_of u.scripts.log
+
+-- Between two packets that were gathered: there is room for one more, and for the end of the bundle behind it.
+pub record IsReady {S : Type 0} (u : UnitState S) : Type 0 where
+  pub agrees : Agrees u
+  pub room : IfSome u.live (λ l. 100 ≤ room_of u.scripts.log)
   pub owes : u.live ≡ None → owed u.scripts.machine.facts + 2 ≤ room_of u.scripts.log

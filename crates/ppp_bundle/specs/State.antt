@@ -9,12 +9,13 @@ use Rattle.ppp_bundle.specs.declared.outbox.BundleEnd.{BundleEnd}
 use Rattle.ppp_bundle.specs.declared.outbox.Sending.{Sending}
 use Rattle.ppp_bundle.specs.declared.outbox.UnitCounts.{UnitCounts}
 
--- Its number and time; its scripts with their log; the bundle that lives, where one does; what gathers pieces; what waits to be sent and given, the
+-- Its number and time; its scripts with their log; how many bundles were made; the bundle that lives, where one does; what gathers pieces; what waits to be sent and given, the
 -- first first; how the last step closed the bundle, if it did; and what was dropped.
 pub record UnitState (S : Type 0) : Type 0 where
   pub unit : ℕ
   pub time : ℕ
   pub scripts : ScriptLogState S
+  pub bundles : ℕ
   pub live : Option Live
   pub gather : GatherNow
   pub sent : List Sending

@@ -45,6 +45,7 @@ new_live number made_at wish mrru allow = record {
 abbrev pub made : {S : Type 0} → ℕ → ℕ → UnitWish → Option MrruPair → Allow → UnitState S → UnitState S
 made number maker wish mrru allow u = record u {
   scripts = marked (made_mark u.time maker number) u.scripts;
+  bundles = number;
   live = Some (new_live number (length u.scripts.log.past) wish mrru allow);
 }
 
@@ -111,21 +112,30 @@ piece_of true false link information = nothing_asked
 piece_of false true link information = nothing_asked
 piece_of false false link information = nothing_asked
 
+abbrev pub asked_to_begin : Option Live → Option MrruPair → GatherCall
+asked_to_begin None mrru = begins_with mrru
+asked_to_begin (Some l) mrru = nothing_asked
+
+abbrev pub asked_to_join : Option Live → ℕ → GatherCall
+asked_to_join None link = nothing_asked
+asked_to_join (Some l) link = if_multilink l.mrru (link_joins link)
+
+abbrev pub asked_to_leave : Option Live → ℕ → GatherCall
+asked_to_leave None link = nothing_asked
+asked_to_leave (Some l) link = if_multilink l.mrru (unless_last (without link l.members) (link_leaves link))
+
+abbrev pub asked_to_take : Option Live → (link protocol : ℕ) → List ℕ → GatherCall
+asked_to_take None link protocol information = nothing_asked
+asked_to_take (Some l) link protocol information = if_multilink l.mrru (piece_of (has_link link l.members) (protocol == MULTILINK) link information)
+
 abbrev pub asked_of : {S : Type 0} → Option Live → BundleEvent S → GatherCall
-asked_of None (Make number maker wish mrru allow) = begins_with mrru
-asked_of None (In link stay mru) = nothing_asked
-asked_of None (Out link stay) = nothing_asked
-asked_of None (Frame link protocol information) = nothing_asked
-asked_of None (Datagram datagram) = nothing_asked
-asked_of None (Tick now) = nothing_asked
-asked_of None (HookOver done) = nothing_asked
-asked_of (Some l) (Make number maker wish mrru allow) = nothing_asked
-asked_of (Some l) (In link stay mru) = if_multilink l.mrru (link_joins link)
-asked_of (Some l) (Out link stay) = if_multilink l.mrru (unless_last (without link l.members) (link_leaves link))
-asked_of (Some l) (Frame link protocol information) = if_multilink l.mrru (piece_of (has_link link l.members) (protocol == MULTILINK) link information)
-asked_of (Some l) (Datagram datagram) = nothing_asked
-asked_of (Some l) (Tick now) = nothing_asked
-asked_of (Some l) (HookOver done) = nothing_asked
+asked_of live (Make number maker wish mrru allow) = asked_to_begin live mrru
+asked_of live (In link stay mru) = asked_to_join live link
+asked_of live (Out link stay) = asked_to_leave live link
+asked_of live (Frame link protocol information) = asked_to_take live link protocol information
+asked_of live (Datagram datagram) = nothing_asked
+asked_of live (Tick now) = nothing_asked
+asked_of live (HookOver done) = nothing_asked
 
 -- what an event does, where the gatherer gives these packets
 abbrev pub after_event : {S : Type 0} → SecretsPair → BundleEvent S → List (List ℕ) → UnitState S → UnitState S
@@ -175,7 +185,17 @@ MayCome (Datagram datagram) u = ⊤
 MayCome (Tick now) u = ⊤
 MayCome (HookOver done) u = ⊤
 
--- So far no multilink bundle may be made.
+-- A link that comes in has a number from 1 to 16.
+abbrev pub IsLinkNumber : {S : Type 0} → BundleEvent S → Type 0
+IsLinkNumber (Make number maker wish mrru allow) = ⊤
+IsLinkNumber (In link stay mru) = (1 ≤ link) × (link ≤ 16)
+IsLinkNumber (Out link stay) = ⊤
+IsLinkNumber (Frame link protocol information) = ⊤
+IsLinkNumber (Datagram datagram) = ⊤
+IsLinkNumber (Tick now) = ⊤
+IsLinkNumber (HookOver done) = ⊤
+
+-- What makes a bundle makes a plain one.
 abbrev pub IsPlainEvent : {S : Type 0} → BundleEvent S → Type 0
 IsPlainEvent (Make number maker wish mrru allow) = mrru ≡ None
 IsPlainEvent (In link stay mru) = ⊤

@@ -1,27 +1,27 @@
-ghost use Rattle.std.specs.Prelude.{◌≡◌, ℕ, ◌+◌, ◌<◌, ◌≤◌, ◌^◌, ◌↔◌, [], ◌∷◌, Some, None, IfSome, IfOk, IfNone, IsSome, OnSome, MatchOption, option_map};
+ghost use Rattle.std.specs.Prelude.{◌≡◌, ℕ, ◌+◌, ◌<◌, ◌≤◌, ◌^◌, ◌↔◌, [], ◌∷◌, Some, None, IfSome, IfOk, IfNone, IsSome, OnSome, MatchOption, length, option_map, slice_get, take};
 ghost use Rattle.ppp_base.specs.declared.hook_target.HookTarget.TheVariants.{Unit as OfUnit};
 ghost use Rattle.ppp_base.specs.Stepped.{IsTaken, OnTaken, IfStale};
 ghost use Rattle.ppp_hooks.specs.HookCounts.{JobCounts, MachineCounts};
 ghost use Rattle.ppp_hooks.specs.HookFacts.{no_facts};
-ghost use Rattle.ppp_hooks.specs.HookPast.{ends_in, not_started_in, running_in, starts_in};
+ghost use Rattle.ppp_hooks.specs.HookPast.{ends_in, greatest_in, not_started_in, running_in, starts_in};
 ghost use Rattle.ppp_hooks.specs.HookWords.{words_of_start};
 ghost use Rattle.ppp_mark.specs.Log.{no_marks};
 ghost use Rattle.ppp_mark.specs.Scripts.{LogLaw, LogSettled, said_in};
-ghost use Rattle.ppp_bundle.specs.Gathers.{Gathered};
-ghost use Rattle.ppp_bundle.specs.Lives.{GoesOnAll, HasBegun, HasHistory};
+ghost use Rattle.ppp_bundle.specs.Lives.{GathersAlways, GoesOnAll, HasBegun, HasPlainHistory};
 ghost use Rattle.ppp_bundle.specs.MayStand.{AllMayStand};
-ghost use Rattle.ppp_bundle.specs.Replay.{Replay, since_made};
+ghost use Rattle.ppp_bundle.specs.Replay.{Replay, bundles_in, openings_in};
 ghost use Rattle.ppp_bundle.specs.Sound.{IsGoing, IsSound};
-ghost use Rattle.ppp_bundle.specs.State.{is_open};
-ghost use Rattle.ppp_bundle.specs.UnitPart.{EventCounts, IsFresh, IsPlainEvent, MayCome, UnitPart, after_event, after_step};
+ghost use Rattle.ppp_bundle.specs.State.{is_open, members_of};
+ghost use Rattle.ppp_bundle.specs.UnitPart.{EventCounts, IsFresh, IsLinkNumber, IsPlainEvent, MayCome, UnitPart, after_event, after_step};
 
 use crate::event::BundleEvent;
+use crate::member::Member;
 use crate::outbox::{BundleEnd, GivenList, Sending, SentList, UnitCounts};
 use crate::unit_state::UnitCore;
 use ppp_base::{Datagram, HookTarget, LEAST_MRRU, NoMemory, Stepped, Unit};
 use ppp_hooks::HookJob;
 use ppp_mark::{Log, ScriptLog};
-use ppp_mp::Gather;
+use ppp_mp::{Gather, Given};
 use ppp_outside::Spawner;
 use ppp_secrets::SecretsPair;
 use std::alloc::Global;
@@ -31,6 +31,8 @@ use std::marker::Model;
 #[derive(Drop)]
 pub struct Bundle<S: Spawner> {
     core: UnitCore<S>,
+    // What the gatherer gave by the last piece or leave.
+    packets: Given,
 }
 
 impl<S: Spawner> Model for Bundle<S> {
@@ -45,22 +47,29 @@ impl<S: Spawner> Model for Bundle<S> {
 }
 
 impl<S: Spawner> UnitCore<S> {
-    // One event, and then the marks are counted.
-    fn step(&mut self, event: BundleEvent<S>, secrets: &SecretsPair) -> Stepped<BundleEvent<S>>
+    // One event: what the gatherer gives by it, what it does, and then the marks are counted.
+    #[tactic(auto, using(crate::proofs::AskFacts::part_of, crate::proofs::AskFacts::sound_asked, crate::proofs::AskFacts::may_asked, crate::proofs::AskFacts::fresh_asked, crate::proofs::AskFacts::stale_same))]
+    fn step(
+        &mut self,
+        event: BundleEvent<S>,
+        secrets: &SecretsPair,
+        packets: &mut Given,
+    ) -> Stepped<BundleEvent<S>>
         requires sound { IsSound self.old }
         requires may { MayCome event self.old }
-        requires plain { IsPlainEvent event }
         requires sent { self.old.sent ≡ [] }
         requires given { self.old.given ≡ [] }
         ensures taken { IsTaken result ↔ IsFresh event self.old }
-        ensures part { OnTaken result (self.new ≡ after_step secrets.now event (record { gather = self.old.gather; packets = [] }) self.old) }
+        ensures part { OnTaken result (UnitPart secrets.now event self.old self.new) }
         ensures counts { (t f : ℕ) → EventCounts S.tries S.faults t f event self.old → OnTaken result (MachineCounts S.tries S.faults t f self.new.scripts.machine) }
         ensures stale { IfStale result (λ back. (back ≡ event) × (self.new ≡ self.old)) }
         ensures sound { IsSound self.new }
+        ensures link { IsLinkNumber event }
     {
+        let count = self.ask(&event, packets);
         let ended = self.ended;
         self.ended = None;
-        match self.apply(event, secrets) {
+        match self.apply(event, secrets, packets, count) {
             Stepped::Taken => {
                 self.look();
                 Stepped::Taken
@@ -72,16 +81,23 @@ impl<S: Spawner> UnitCore<S> {
         }
     }
 
-    // What an event does.
-    #[tactic(auto, using(crate::proofs::SoundFacts::going, crate::proofs::SoundFacts::over_going, crate::proofs::PlainFacts::last_out, crate::proofs::CountFacts::moved_counts))]
-    fn apply(&mut self, event: BundleEvent<S>, secrets: &SecretsPair) -> Stepped<BundleEvent<S>>
+    // What an event does, where the gatherer gave these packets, the first so many.
+    #[tactic(auto, using(crate::proofs::SoundFacts::going, crate::proofs::SoundFacts::over_going, crate::proofs::CountFacts::moved_counts))]
+    fn apply(
+        &mut self,
+        event: BundleEvent<S>,
+        secrets: &SecretsPair,
+        packets: &Given,
+        count: u8,
+    ) -> Stepped<BundleEvent<S>>
         requires sound { IsSound self.old }
         requires may { MayCome event self.old }
-        requires plain { IsPlainEvent event }
         requires sent { self.old.sent ≡ [] }
         requires given { self.old.given ≡ [] }
+        requires some { count ≤ length packets.now }
+        requires few { count ≤ 128 }
         ensures taken { IsTaken result ↔ IsFresh event self.old }
-        ensures new { OnTaken result (self.new ≡ after_event secrets.now event [] self.old) }
+        ensures new { OnTaken result (self.new ≡ after_event secrets.now event (take count packets.now) self.old) }
         ensures going { OnTaken result (IsGoing self.new) }
         ensures counts { (t f : ℕ) → EventCounts S.tries S.faults t f event self.old → OnTaken result (MachineCounts S.tries S.faults t f self.new.scripts.machine) }
         ensures stale { IfStale result (λ back. (back ≡ event) × (self.new ≡ self.old)) }
@@ -95,12 +111,12 @@ impl<S: Spawner> UnitCore<S> {
                 allow,
             } => self.make(number, maker, wish, mrru, allow),
             BundleEvent::In { link, stay, mru } => self.enter(link, stay, mru, secrets),
-            BundleEvent::Out { link, stay } => self.leave(link, stay, secrets),
+            BundleEvent::Out { link, stay } => self.leave(link, stay, secrets, packets, count),
             BundleEvent::Frame {
                 link,
                 protocol,
                 information,
-            } => self.frame(link, protocol, &information, secrets),
+            } => self.frame(link, protocol, &information, secrets, packets, count),
             BundleEvent::Datagram(datagram) => self.carry(&datagram),
             BundleEvent::Tick(now) => self.tick(now, secrets),
             BundleEvent::HookOver(done) => {
@@ -116,7 +132,7 @@ impl<S: Spawner> UnitCore<S> {
 
 impl<S: Spawner> Bundle<S> {
     /// A unit without a bundle, whose log has room for so many marks. All memory that is ever needed is taken here.
-    #[tactic(auto, using(crate::proofs::UnitFacts::new_stands))]
+    #[tactic(auto, using(crate::proofs::UnitFacts::new_unit))]
     pub fn new(alloc: Global, unit: Unit, spawner: S, loglimit: u32) -> Result<Bundle<S>, NoMemory>
         requires limit { (4096 ≤ loglimit) × (loglimit ≤ 1048576) }
         requires tries { S.tries spawner < 2 ^ 63 }
@@ -124,6 +140,7 @@ impl<S: Spawner> Bundle<S> {
         ensures unit { IfOk result (λ b. b.unit ≡ unit) }
         ensures time { IfOk result (λ b. b.time ≡ 0) }
         ensures scripts { IfOk result (λ b. b.scripts ≡ record { machine = record { target = OfUnit unit; facts = no_facts; spawner = Some spawner }; log = no_marks loglimit }) }
+        ensures bundles { IfOk result (λ b. b.bundles ≡ 0) }
         ensures live { IfOk result (λ b. b.live ≡ None) }
         ensures counts_from { IfOk result (λ b. MachineCounts S.tries S.faults (S.tries spawner) (S.faults spawner) b.scripts.machine) }
         ensures waits { IfOk result (λ b. (b.sent ≡ []) × (b.given ≡ []) × (b.ended ≡ None)) }
@@ -136,10 +153,11 @@ impl<S: Spawner> Bundle<S> {
                 unit,
                 time: 0,
                 scripts,
+                bundles: 0,
                 live: None,
                 gather,
-                sent: SentList::new(),
-                given: GivenList::new(),
+                sent: SentList::new(alloc)?,
+                given: GivenList::new(alloc)?,
                 ended: None,
                 counts: UnitCounts {
                     not_open: 0,
@@ -148,28 +166,29 @@ impl<S: Spawner> Bundle<S> {
                     bad_inner: 0,
                 },
             },
+            packets: Given::new(alloc)?,
         })
     }
 
-    /// One event. A script's end that isn't the running job's is stale: it comes back, and nothing changes. So far no
-    /// multilink bundle may be made. It takes no memory.
-    #[tactic(auto, using(crate::proofs::PlainFacts::plain_part, crate::proofs::UnitFacts::unit_after, crate::proofs::GoesFacts::goes_after, crate::proofs::GoesFacts::begun_after))]
+    /// One event. A script's end that isn't the running job's is stale: it comes back, and nothing changes. It takes no
+    /// memory.
+    #[tactic(auto, using(crate::proofs::UnitFacts::unit_after, crate::proofs::UnitFacts::goes_after, crate::proofs::UnitFacts::begun_after))]
     pub fn step(&mut self, event: BundleEvent<S>, secrets: &SecretsPair) -> Stepped<BundleEvent<S>>
         requires may { MayCome event self.old }
-        requires plain { IsPlainEvent event }
         requires sent { self.old.sent ≡ [] }
         requires given { self.old.given ≡ [] }
         ensures taken { IsTaken result ↔ IsFresh event self.old }
         ensures part { OnTaken result (UnitPart secrets.now event self.old self.new) }
-        ensures begun { OnTaken result (HasBegun event self.old self.new) }
-        ensures goes { OnTaken result (GoesOnAll secrets.now event self.old self.new) }
+        ensures begun { IsPlainEvent event → OnTaken result (HasBegun event self.old self.new) }
+        ensures goes { IfSome self.old.live (λ l. l.mrru ≡ None) → OnTaken result (GoesOnAll secrets.now event self.old self.new) }
         ensures counts { (t f : ℕ) → EventCounts S.tries S.faults t f event self.old → OnTaken result (MachineCounts S.tries S.faults t f self.new.scripts.machine) }
         ensures stale { IfStale result (λ back. (back ≡ event) × (self.new ≡ self.old)) }
     {
-        self.core.step(event, secrets)
+        self.core.step(event, secrets, &mut self.packets)
     }
 
     /// The script that was started, if its job hasn't been taken. The spawner goes with it. It takes no memory.
+    #[tactic(auto, using(crate::proofs::UnitFacts::without_job))]
     pub fn take_job(&mut self) -> Option<HookJob<S>>
         ensures some { IsSome result ↔ (IsSome self.old.scripts.machine.spawner × (ends_in (said_in self.old.scripts.log.past) < starts_in (said_in self.old.scripts.log.past))) }
         ensures job { IfSome result (λ job. (job.target ≡ self.old.scripts.machine.target) × (job.number ≡ starts_in (said_in self.old.scripts.log.past))
@@ -216,7 +235,8 @@ impl<S: Spawner> Bundle<S> {
         ensures settled { LogSettled self.now.scripts.log.past (is_open self.now.live) }
         ensures replay { Replay self.now self.now.scripts.log.past }
         ensures marks { AllMayStand self.now.scripts.log.past }
-        ensures history { IfSome self.now.live (HasHistory (since_made self.now.scripts.log.past) self.now.time self.now.gather) }
+        ensures history { HasPlainHistory self.now }
+        ensures gathers { IfSome self.now.live (λ l. GathersAlways l.mrru self.now.gather l.members) }
         ensures room { IfSome self.now.live (λ l. l.made_at + 1024 ≤ self.now.scripts.log.limit) }
     {
         self.core.scripts.log()
@@ -227,6 +247,31 @@ impl<S: Spawner> Bundle<S> {
         ensures { result ≡ is_open self.now.live }
     {
         self.core.is_open()
+    }
+
+    /// How often IP was opened.
+    pub fn openings(&self) -> u32
+        ensures value { result ≡ openings_in 0 self.now.scripts.log.past }
+        ensures said { result ≡ greatest_in (said_in self.now.scripts.log.past) }
+    {
+        self.core.scripts.openings()
+    }
+
+    /// How many bundles were made. The next has the next number.
+    pub fn bundles(&self) -> u32
+        ensures value { result ≡ bundles_in 0 self.now.scripts.log.past }
+    {
+        self.core.bundles
+    }
+
+    /// The member at this place, in link order. None where there are fewer.
+    pub fn member(&self, at: usize) -> Option<Member>
+        ensures { result ≡ slice_get (members_of self.now.live) at }
+    {
+        match &self.core.live {
+            Some(live) => live.members.as_slice().get(at).copied(),
+            None => None,
+        }
     }
 
     /// The number of the job that runs.

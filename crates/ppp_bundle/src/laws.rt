@@ -1,14 +1,20 @@
 //! What follows from the definitions alone: worked rows of a unit.
 
-ghost use Rattle.std.specs.Prelude.{◌≡◌, ◌++◌, ℕ, Some, None, List, [], ◌∷◌, true, false, length, replicate};
+ghost use Rattle.std.specs.Prelude.{◌≡◌, ◌<◌, ◌++◌, ℕ, Some, None, List, [], ◌∷◌, true, false, length, replicate, take};
 ghost use Rattle.ppp_base.specs.declared.posts.CloseCause.TheVariants.{Idle, ConnectTime, IpcpFailed, EndedByPeer};
 ghost use Rattle.ppp_base.specs.declared.protocol.TheConstants.{IP, IPCP};
 ghost use Rattle.ppp_fsm.specs.declared.fsm.Limits.{Limits};
 ghost use Rattle.ppp_mark.specs.Marks.{close_mark, ended_mark, in_mark, ip_closed_mark, made_mark, out_mark, started_mark, unmade_mark};
+ghost use Rattle.ppp_mp.specs.Cut.{Cut};
+ghost use Rattle.ppp_mp.specs.Header.{long_octets};
+ghost use Rattle.ppp_mp.specs.Members.{AreMembers};
+ghost use Rattle.ppp_mp.specs.declared.cuts.CutPiece.{CutPiece};
+ghost use Rattle.ppp_mp.specs.declared.members.MemberView.{MemberView};
 ghost use Rattle.ppp_mp.specs.StandsFor.{GatherNow};
 ghost use Rattle.ppp_outside.specs.declared.spawner.ScriptEnd.TheVariants.{Exit};
 ghost use Rattle.ppp_bundle.specs.declared.event.BundleEvent.TheVariants.{Datagram, Frame, Out, Tick};
-ghost use Rattle.ppp_bundle.specs.Rows.{Lawful, address, all_of, at_open, begins, first_marks, fresh, marks_in, negotiates, peer_ends, script_ends, ten};
+ghost use Rattle.ppp_bundle.specs.Sends.{cut_of, packet_of, pieces_of};
+ghost use Rattle.ppp_bundle.specs.Rows.{Lawful, address, all_of, at_open, begins, begins_with_two, first_marks, fresh, marks_in, negotiates, peer_ends, piece, script_ends, ten};
 
 /// A bundle is made and link 1 comes in: the first request goes out. The peer's request and its ack open IP, and the start stands behind
 /// it, before the two addresses.
@@ -63,4 +69,28 @@ pub fn leaves()
     ensures marks { (lawful : Lawful) (limits : Limits) (gather : GatherNow) → marks_in (all_of (begins lawful limits 0 0 ++ negotiates ++ Out 1 1 ∷ []) (fresh gather))
         ≡ first_marks ++ at_open 0 ++ ip_closed_mark 0 1 ∷ out_mark 0 1 1 ∷ unmade_mark 0 1 ∷ [] }
     ensures ended { (lawful : Lawful) (limits : Limits) (gather : GatherNow) → (all_of (begins lawful limits 0 0 ++ negotiates ++ Out 1 1 ∷ []) (fresh gather)).ended ≡ None }
+{}
+
+/// A multilink bundle with two members whose peers take 1,500 octets sends all as pieces, numbered from 0: our request and our ack, each
+/// of them whole, to one member and then to the other, and a datagram of 299 octets in two pieces of 150 octets.
+pub fn sends_pieces()
+    ensures asks { (lawful : Lawful) (limits : Limits) (gather : GatherNow) → (all_of (take 2 (begins_with_two lawful limits)) (fresh gather)).sent ≡ piece 1 0xc0 0 (0x80 ∷ 0x21 ∷ 1 ∷ 1 ∷ 0 ∷ 10 ∷ address 1) ∷ [] }
+    ensures acks { (lawful : Lawful) (limits : Limits) (gather : GatherNow) → (all_of (begins_with_two lawful limits ++ take 1 negotiates) (fresh gather)).sent
+        ≡ piece 2 0xc0 1 (0x80 ∷ 0x21 ∷ 2 ∷ 7 ∷ 0 ∷ 10 ∷ address 2) ∷ [] }
+    ensures datagram { (lawful : Lawful) (limits : Limits) (gather : GatherNow) → (all_of (begins_with_two lawful limits ++ negotiates ++ Datagram (replicate 299 69) ∷ []) (fresh gather)).sent
+        ≡ piece 1 0x80 2 (0x21 ∷ replicate 149 69) ∷ piece 2 0x40 3 (replicate 150 69) ∷ [] }
+    ensures first { pieces_of (record { number = 0; turn = 0 }) (record { link = 1; mru = 1500 } ∷ record { link = 2; mru = 1500 } ∷ []) (packet_of IP (replicate 299 69))
+        ≡ piece 1 0x80 0 (0x21 ∷ replicate 149 69) ∷ piece 2 0x40 1 (replicate 150 69) ∷ [] }
+{}
+
+/// A member of a multilink bundle goes out while another stays: the bundle lives on.
+pub fn leaves_another()
+    ensures marks { (lawful : Lawful) (limits : Limits) (gather : GatherNow) → marks_in (all_of (begins_with_two lawful limits ++ Out 1 1 ∷ []) (fresh gather)) ≡ first_marks ++ in_mark 0 2 1 ∷ out_mark 0 1 1 ∷ [] }
+    ensures ended { (lawful : Lawful) (limits : Limits) (gather : GatherNow) → (all_of (begins_with_two lawful limits ++ Out 1 1 ∷ []) (fresh gather)).ended ≡ None }
+{}
+
+/// The cut of a packet over the members of a bundle is one list of pieces: that which a multilink bundle sends.
+pub fn one_cut()
+    ensures one { (len turn : ℕ) (members : List MemberView) (pieces : List CutPiece) → Cut long_octets len members turn pieces → pieces ≡ cut_of len members turn }
+    ensures some { (len turn : ℕ) (members : List MemberView) → 0 < len → 0 < length members → AreMembers 0 members → Cut long_octets len members turn (cut_of len members turn) }
 {}

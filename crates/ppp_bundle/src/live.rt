@@ -1,5 +1,6 @@
 ghost use Rattle.std.specs.Prelude.{◌≡◌, ◌≤◌, ◌^◌, ◌∷◌, [], List};
 ghost use Rattle.ppp_bundle.specs.Closing.{over_limit};
+ghost use Rattle.ppp_bundle.specs.Frames.{most_of_ours};
 ghost use Rattle.ppp_bundle.specs.IpCalls.{around_of, call_of, ip_left, ip_tells, has_finished, live_left, live_tells, or_none, args_of};
 ghost use Rattle.ppp_bundle.specs.Sound.{SomeSession};
 ghost use Rattle.ppp_bundle.specs.State.{is_up, most_to_peer};
@@ -106,6 +107,17 @@ impl Live {
         match self.members.first() {
             Some(member) => member.mru,
             None => DEFAULT_MRU,
+        }
+    }
+
+    // The most octets of a packet that was gathered.
+    pub(crate) fn most_of_ours(&self) -> u16
+        ensures most { result ≡ most_of_ours self.now.mrru }
+        ensures within { result ≤ 2048 }
+    {
+        match self.mrru {
+            Some(mrru) => mrru.ours(),
+            None => 0,
         }
     }
 

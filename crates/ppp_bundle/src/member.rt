@@ -1,8 +1,9 @@
-ghost use Rattle.std.specs.Prelude.{◌≡◌, ◌≤◌, [], ◌∷◌, length, slice_get};
-ghost use Rattle.ppp_bundle.specs.Member.{has_link};
+ghost use Rattle.std.specs.Prelude.{◌≡◌, ◌≤◌, ◌==◌, [], ◌∷◌, false, length, slice_get};
+ghost use Rattle.ppp_bundle.specs.Member.{AreInOrder, below, has_link, views_of, with_member, without};
 
 use arrayvec::ArrayVec;
 use ppp_base::LinkId;
+use ppp_mp::{MemberView, Members};
 use std::marker::Model;
 
 /// A member of a bundle: its link, the number of its stay, and the most octets of information that its peer takes.
@@ -52,15 +53,6 @@ impl MemberList {
         }
     }
 
-    // One member.
-    pub(crate) fn one(member: Member) -> MemberList
-        ensures { result ≡ member ∷ [] }
-    {
-        let mut list = ArrayVec::new();
-        list.push(member);
-        MemberList { list }
-    }
-
     // Whether a link is a member.
     pub(crate) fn has(&self, link: LinkId) -> bool
         ensures { result ≡ has_link link self.now }
@@ -84,5 +76,81 @@ impl MemberList {
         ensures few { length result.now ≤ 16 }
     {
         self.list.as_slice()
+    }
+
+    // How many members have lesser links.
+    fn place(&self, link: LinkId) -> usize
+        ensures place { result ≡ below link self.now }
+        ensures within { result ≤ length self.now }
+        ensures few { length self.now ≤ 16 }
+    {
+        let mut place = 0;
+        let members = self.list.as_slice();
+        'placing: for member in members {
+            if member.link.number() < link.number() {
+                place += 1;
+            }
+        }
+        place
+    }
+
+    // A link comes in, at its place in link order.
+    #[tactic(auto, using(crate::proofs::MemberFacts::has_room, crate::proofs::MemberFacts::insert_is))]
+    pub(crate) fn insert(&mut self, member: Member)
+        requires order { AreInOrder 0 self.old }
+        requires other { has_link member.link self.old ≡ false }
+        ensures { self.new ≡ with_member member self.old }
+    {
+        let _number = member.link.number();
+        let place = self.place(member.link);
+        self.list.insert(place, member);
+    }
+
+    // The members without a link.
+    pub(crate) fn without(&self, link: LinkId) -> MemberList
+        ensures { result ≡ without link self.now }
+    {
+        let mut list = ArrayVec::new();
+        let members = self.list.as_slice();
+        'leaving: for member in members {
+            if member.link != link {
+                list.push(*member);
+            }
+        }
+        MemberList { list }
+    }
+
+    // Whether there is none.
+    pub(crate) fn is_empty(&self) -> bool
+        ensures { result ≡ (length self.now == 0) }
+    {
+        self.list.is_empty()
+    }
+
+    // As packets are cut over them.
+    #[tactic(auto, using(crate::proofs::MemberFacts::lawful_views))]
+    pub(crate) fn views(&self) -> Members
+        requires { AreInOrder 0 self.now }
+        ensures { result ≡ views_of self.now }
+    {
+        match Members::from_views(self.each_view()) {
+            Some(members) => members,
+            None => Members::new(),
+        }
+    }
+
+    // Each as packets are cut over it.
+    fn each_view(&self) -> ArrayVec<MemberView, 16>
+        ensures { result.items ≡ views_of self.now }
+    {
+        let mut views = ArrayVec::new();
+        let members = self.list.as_slice();
+        'viewing: for member in members {
+            views.push(MemberView {
+                link: member.link,
+                mru: member.mru,
+            });
+        }
+        views
     }
 }

@@ -1,7 +1,8 @@
-ghost use Rattle.std.specs.Prelude.{◌≡◌, ◌<◌, ◌≤◌, [], ◌∷◌, ◌++◌, length, MatchOption, IfNone};
+ghost use Rattle.std.specs.Prelude.{◌≡◌, ◌<◌, ◌≤◌, [], ◌∷◌, ◌++◌, length, MatchOption, IfNone, IfOk};
 
-use arrayvec::ArrayVec;
-use ppp_base::{CloseCause, Datagram, Frame, LinkId};
+use circular_buffer::HeapCircularBuffer;
+use ppp_base::{CloseCause, Datagram, Frame, LinkId, NoMemory};
+use std::alloc::Global;
 use std::marker::Model;
 
 /// What a link is to send to its peer.
@@ -12,21 +13,6 @@ pub struct Sending {
     pub information: Frame,
     /// The link is to reject this protocol.
     pub rejected: bool,
-}
-
-impl Default for Sending {
-    ghost is_default = { λ s. s ≡ record { link = 1; protocol = 0; information = []; rejected = false } };
-
-    ghost use Rattle.std.specs.Prelude.{false};
-
-    fn default() -> Sending {
-        Sending {
-            link: LinkId::new(1).unwrap(),
-            protocol: 0,
-            information: Frame::new(),
-            rejected: false,
-        }
-    }
 }
 
 /// How a step closed the bundle.
@@ -62,89 +48,100 @@ pub struct UnitCounts {
     pub bad_inner: u64,
 }
 
+// How much may wait: 128 packets that were gathered lead to three packets of IPCP each at most, and each is sent in 17 pieces at
+// most.
+const MOST_SENT: usize = 6528;
+
+// A step gives no more than it gathers.
+const MOST_GIVEN: usize = 128;
+
 // What a step sends. Contracts see it as its list.
 #[derive(Drop)]
 pub(crate) struct SentList {
-    list: ArrayVec<Sending, 16>,
+    list: HeapCircularBuffer<Sending>,
 }
 
 impl Model for SentList {
-    ghost use Rattle.std.specs.Prelude.{List};
+    ghost use Rattle.std.specs.Prelude.{List, ◌≡◌};
     ghost use Rattle.ppp_bundle.specs.declared.outbox.Sending.{Sending};
+    ghost use Rattle.ppp_bundle.specs.declared.outbox.TheConstants.{MOST_SENT};
 
     ghost Value = { List Sending };
 
     ghost view = { λ s. s.list.items };
+
+    ghost invariant = { λ s. s.list.capacity ≡ MOST_SENT };
 }
 
 impl SentList {
-    pub(crate) fn new() -> SentList
-        ensures { result ≡ [] }
+    // Nothing waits. All memory that is ever needed is taken here.
+    pub(crate) fn new(alloc: Global) -> Result<SentList, NoMemory>
+        ensures { IfOk result (λ s. s ≡ []) }
     {
-        SentList {
-            list: ArrayVec::new(),
+        match HeapCircularBuffer::with_capacity(alloc, MOST_SENT) {
+            Ok(list) => Ok(SentList { list }),
+            Err(_) => Err(NoMemory),
         }
     }
 
     pub(crate) fn push(&mut self, sending: Sending)
-        requires { length self.old < 16 }
+        requires { length self.old < MOST_SENT }
         ensures { self.new ≡ self.old ++ sending ∷ [] }
     {
-        self.list.push(sending);
+        let _ = self.list.try_push_back(sending);
     }
 
     // The first is taken.
+    #[tactic(auto, using(crate::proofs::OutboxFacts::first_of))]
     pub(crate) fn take_first(&mut self) -> Option<Sending>
         ensures some { MatchOption result (self.old ≡ []) (λ first. self.old ≡ first ∷ self.new) }
         ensures none { IfNone result (self.new ≡ []) }
     {
-        if self.list.is_empty() {
-            None
-        } else {
-            Some(self.list.remove(0))
-        }
+        self.list.pop_front()
     }
 }
 
 // What a step gives. Contracts see it as its list.
 #[derive(Drop)]
 pub(crate) struct GivenList {
-    list: ArrayVec<Datagram, 4>,
+    list: HeapCircularBuffer<Datagram>,
 }
 
 impl Model for GivenList {
-    ghost use Rattle.std.specs.Prelude.{List, ℕ};
+    ghost use Rattle.std.specs.Prelude.{List, ℕ, ◌≡◌};
+    ghost use Rattle.ppp_bundle.specs.declared.outbox.TheConstants.{MOST_GIVEN};
 
     ghost Value = { List (List ℕ) };
 
     ghost view = { λ s. s.list.items };
+
+    ghost invariant = { λ s. s.list.capacity ≡ MOST_GIVEN };
 }
 
 impl GivenList {
-    pub(crate) fn new() -> GivenList
-        ensures { result ≡ [] }
+    // Nothing waits. All memory that is ever needed is taken here.
+    pub(crate) fn new(alloc: Global) -> Result<GivenList, NoMemory>
+        ensures { IfOk result (λ s. s ≡ []) }
     {
-        GivenList {
-            list: ArrayVec::new(),
+        match HeapCircularBuffer::with_capacity(alloc, MOST_GIVEN) {
+            Ok(list) => Ok(GivenList { list }),
+            Err(_) => Err(NoMemory),
         }
     }
 
     pub(crate) fn push(&mut self, datagram: Datagram)
-        requires { length self.old < 4 }
+        requires { length self.old < MOST_GIVEN }
         ensures { self.new ≡ self.old ++ datagram ∷ [] }
     {
-        self.list.push(datagram);
+        let _ = self.list.try_push_back(datagram);
     }
 
     // The first is taken.
+    #[tactic(auto, using(crate::proofs::OutboxFacts::first_of))]
     pub(crate) fn take_first(&mut self) -> Option<Datagram>
         ensures some { MatchOption result (self.old ≡ []) (λ first. self.old ≡ first ∷ self.new) }
         ensures none { IfNone result (self.new ≡ []) }
     {
-        if self.list.is_empty() {
-            None
-        } else {
-            Some(self.list.remove(0))
-        }
+        self.list.pop_front()
     }
 }

@@ -1,28 +1,30 @@
 // What each event does to a unit.
-ghost use Rattle.std.specs.Prelude.{◌≡◌, ◌+◌, ◌≤◌, ◌<◌, ◌^◌, [], ◌∷◌, true, false, Some, None, IfSome, IsSome, ℕ, is_some, length, IsOk, OnOk, OnErr, IfErr, ◌↔◌};
+ghost use Rattle.std.specs.Prelude.{◌≡◌, ◌+◌, ◌≤◌, ◌<◌, ◌^◌, [], ◌∷◌, ◌==◌, not, true, false, Some, None, IfSome, IsSome, ℕ, is_some, length, take, IsOk, OnOk, OnErr, IfErr, ◌↔◌};
 ghost use Rattle.ppp_hooks.specs.HookCounts.{DoneCounts, MachineCounts};
 ghost use Rattle.ppp_mark.specs.Log.{room_of};
 ghost use Rattle.ppp_mark.specs.ScriptLog.{IsRunningJob};
 ghost use Rattle.ppp_bundle.specs.Closing.{connect_end, crowded_end, idle_end, looked};
-ghost use Rattle.ppp_bundle.specs.Frames.{brought, carried, gave, heard};
 ghost use Rattle.ppp_bundle.specs.IpCalls.{called};
-ghost use Rattle.ppp_bundle.specs.Member.{has_link, member, without};
-ghost use Rattle.ppp_bundle.specs.Sound.{Agrees, Goes, Adds, HasRoom, IsGoing, IsSound};
-ghost use Rattle.ppp_bundle.specs.State.{is_open, members_of, most_to_peer};
-ghost use Rattle.ppp_bundle.specs.UnitPart.{begun, entered, framed, left_of, made, script_over, ticked_unit};
-ghost use Rattle.ppp_packet.specs.PacketOf.{packet_in};
+ghost use Rattle.ppp_bundle.specs.Member.{member, stay_of, with_member, without};
+ghost use Rattle.ppp_bundle.specs.ScriptParts.{marked};
+ghost use Rattle.ppp_bundle.specs.Sound.{Adds, Agrees, Goes, HasRoom, IsGoing, IsSound};
+ghost use Rattle.ppp_bundle.specs.State.{is_open, members_of};
+ghost use Rattle.ppp_bundle.specs.UnitPart.{MayEnter, begun, entered, left_of, made, script_over, ticked_unit};
+ghost use Rattle.ppp_bundle.specs.declared.outbox.TheConstants.{MOST_SENT};
+ghost use Rattle.ppp_mark.specs.Marks.{in_mark};
+ghost use Rattle.ppp_secrets.specs.declared.secrets.SecretsPair.{SecretsPair};
 
 use crate::live::{IpCall, Live};
-use crate::member::{Member, MemberList};
+use crate::member::Member;
 use crate::outbox::Ending;
 use crate::scripts::{end_script, put, unmake};
 use crate::unit_state::UnitCore;
 use crate::wish::UnitWish;
-use ppp_base::{Allow, CloseCause, Datagram, Frame, LinkId, Mrru, protocol};
+use ppp_base::{Allow, CloseCause, LinkId, Mrru};
 use ppp_hooks::HookDone;
 use ppp_mark::Mark;
+use ppp_mp::Given;
 use ppp_outside::Spawner;
-use ppp_packet::Packet;
 use ppp_secrets::SecretsPair;
 
 // The marks of a bundle that are too many.
@@ -96,7 +98,7 @@ impl<S: Spawner> UnitCore<S> {
     // A moment.
     pub(crate) fn tick(&mut self, now: u64, secrets: &SecretsPair)
         requires room { HasRoom 100 self.old }
-        requires sent { length self.old.sent ≤ 8 }
+        requires sent { length self.old.sent + 51 ≤ MOST_SENT }
         requires agrees { Agrees self.old }
         ensures new { self.new ≡ ticked_unit secrets.now now self.old }
         ensures agrees { Agrees self.new }
@@ -122,155 +124,109 @@ impl<S: Spawner> UnitCore<S> {
         requires agrees { Agrees self.old }
         requires none { self.old.live ≡ None }
         requires room { 1024 ≤ room_of self.old.scripts.log }
-        requires plain { mrru ≡ None }
         ensures new { self.new ≡ made number maker wish mrru allow self.old }
         ensures machine { self.new.scripts.machine ≡ self.old.scripts.machine }
         ensures going { IsGoing self.new }
     {
         let made_at = self.scripts.log().count();
         put(&mut self.scripts, Mark::made(self.time, maker, number));
+        self.bundles = number;
         self.live = Some(Live::new(number, made_at, wish, mrru, allow));
     }
 
-    // A link comes in.
+    // A link is a member from now on. True where it is the first.
+    #[tactic(auto, using(crate::proofs::MemberSteps::agrees_with))]
+    fn add_member(&mut self, link: LinkId, stay: u32, mru: u16) -> bool
+        requires room { HasRoom 100 self.old }
+        requires may { MayEnter self.old.live link mru }
+        requires agrees { Agrees self.old }
+        ensures new { IfSome self.old.live (λ l. self.new ≡ record self.old { scripts = marked (in_mark self.old.time link stay) self.old.scripts; live = Some (record l { members = with_member (member link stay mru) l.members }) }) }
+        ensures first { result ≡ (length (members_of self.old.live) == 0) }
+        ensures agrees { Agrees self.new }
+        ensures goes { Goes 1 self.old self.new }
+        ensures sent { self.new.sent ≡ self.old.sent }
+        ensures given { self.new.given ≡ self.old.given }
+    {
+        let Some(mut live) = self.live.take() else {
+            return true;
+        };
+        let is_first = live.members.is_empty();
+        let _number = link.number();
+        put(&mut self.scripts, Mark::in_(self.time, link, stay));
+        live.members.insert(Member { link, stay, mru });
+        self.live = Some(live);
+        is_first
+    }
+
+    // A link comes in. As the first does, IPCP gets Open and Up.
     pub(crate) fn enter(&mut self, link: LinkId, stay: u32, mru: u16, secrets: &SecretsPair)
         requires room { HasRoom 100 self.old }
-        requires sent { length self.old.sent ≤ 2 }
-        requires members { members_of self.old.live ≡ [] }
+        requires sent { length self.old.sent + 102 ≤ MOST_SENT }
+        requires may { MayEnter self.old.live link mru }
         requires agrees { Agrees self.old }
-        requires mru { (128 ≤ mru) × (mru ≤ 1500) }
         ensures new { self.new ≡ entered secrets.now link stay mru self.old }
         ensures agrees { Agrees self.new }
         ensures goes { Goes 49 self.old self.new }
     {
-        if let Some(mut live) = self.live.take() {
-            put(&mut self.scripts, Mark::in_(self.time, link, stay));
-            live.members = MemberList::one(Member { link, stay, mru });
-            self.live = Some(live);
+        let is_first = self.add_member(link, stay, mru);
+        if is_first {
             self.call(&IpCall::Opens, secrets);
             self.call(&IpCall::ComesUp, secrets);
         }
     }
 
-    // The one member goes out.
-    pub(crate) fn leave(&mut self, link: LinkId, stay: u32, secrets: &SecretsPair)
+    // A link is no member from now on. True where others stay; else the bundle is unmade.
+    #[tactic(auto, using(crate::proofs::MemberSteps::agrees_without, crate::proofs::MemberSteps::leaves_last, crate::proofs::MemberSteps::leaves_others))]
+    fn drop_member(&mut self, link: LinkId, stay: u32) -> bool
         requires room { HasRoom 24 self.old }
         requires agrees { Agrees self.old }
-        requires last { without link (members_of self.old.live) ≡ [] }
-        ensures new { self.new ≡ left_of self.old.live secrets.now link stay [] self.old }
+        requires there { stay_of link (members_of self.old.live) ≡ Some stay }
+        ensures new { (secrets : SecretsPair) → self.new ≡ left_of self.old.live secrets link stay [] self.old }
+        ensures others { result ≡ not (length (without link (members_of self.old.live)) == 0) }
         ensures agrees { Agrees self.new }
         ensures goes { Goes 19 self.old self.new }
+        ensures lives { result ≡ true → Goes 1 self.old self.new }
+        ensures sent { self.new.sent ≡ self.old.sent }
+        ensures given { self.new.given ≡ self.old.given }
     {
         let unit = self.unit;
         let time = self.time;
-        if let Some(live) = self.live.take() {
+        let Some(mut live) = self.live.take() else {
+            return false;
+        };
+        let left = live.members.without(link);
+        if left.is_empty() {
             unmake(&mut self.scripts, unit, &live, time);
+            return false;
         }
+        put(&mut self.scripts, Mark::out(time, link, stay));
+        live.members = left;
+        self.live = Some(live);
+        true
     }
 
-    // A frame of a link.
-    pub(crate) fn frame(
+    // A member goes out. Where others stay, what the gatherer gave then is used.
+    #[tactic(auto, using(crate::proofs::MemberSteps::left_more, crate::proofs::MemberSteps::left_last, crate::proofs::ReadyFacts::ready, crate::proofs::SoundFacts::going, crate::proofs::ReadyFacts::goes_both, crate::proofs::ReadyFacts::goes_most))]
+    pub(crate) fn leave(
         &mut self,
         link: LinkId,
-        protocol: u16,
-        information: &Frame,
+        stay: u32,
         secrets: &SecretsPair,
+        packets: &Given,
+        count: u8,
     )
-        requires room { HasRoom 100 self.old }
-        requires sent { length self.old.sent ≤ 8 }
-        requires given { length self.old.given < 4 }
-        requires agrees { Agrees self.old }
-        ensures new { self.new ≡ framed secrets.now link protocol information.now [] self.old }
-        ensures agrees { Agrees self.new }
-        ensures goes { Goes 24 self.old self.new }
+        requires sound { IsSound self.old }
+        requires there { stay_of link (members_of self.old.live) ≡ Some stay }
+        requires sent { self.old.sent ≡ [] }
+        requires given { self.old.given ≡ [] }
+        requires some { count ≤ length packets.now }
+        requires few { count ≤ 128 }
+        ensures new { self.new ≡ left_of self.old.live secrets.now link stay (take count packets.now) self.old }
+        ensures going { IsGoing self.new }
+        ensures goes { Goes 5652 self.old self.new }
     {
-        if self.has_member(link) {
-            self.bring(protocol, information, secrets);
-        } else {
-            self.counts.stranger = self.counts.stranger.saturating_add(1);
-        }
-    }
-
-    // Whether a link is a member.
-    fn has_member(&self, link: LinkId) -> bool
-        ensures { result ≡ has_link link (members_of self.now.live) }
-    {
-        match &self.live {
-            Some(live) => live.members.has(link),
-            None => false,
-        }
-    }
-
-    // What a member brings.
-    fn bring(&mut self, protocol: u16, information: &Frame, secrets: &SecretsPair)
-        requires room { HasRoom 100 self.old }
-        requires sent { length self.old.sent ≤ 8 }
-        requires given { length self.old.given < 4 }
-        requires agrees { Agrees self.old }
-        ensures new { self.new ≡ brought secrets.now protocol information.now self.old }
-        ensures agrees { Agrees self.new }
-        ensures goes { Goes 24 self.old self.new }
-        ensures sent { length self.new.sent ≤ length self.old.sent + 3 }
-        ensures given { length self.new.given ≤ length self.old.given + 1 }
-    {
-        if protocol == protocol::IPCP {
-            self.hear(information, secrets);
-        } else if protocol == protocol::IP {
-            self.give(information);
-        }
-    }
-
-    // IPCP hears a packet.
-    fn hear(&mut self, information: &Frame, secrets: &SecretsPair)
-        requires room { HasRoom 100 self.old }
-        requires sent { length self.old.sent ≤ 8 }
-        requires agrees { Agrees self.old }
-        ensures new { self.new ≡ heard secrets.now (packet_in information.now) self.old }
-        ensures agrees { Agrees self.new }
-        ensures goes { Goes 24 self.old self.new }
-        ensures sent { length self.new.sent ≤ length self.old.sent + 3 }
-        ensures given { self.new.given ≡ self.old.given }
-    {
-        if let Ok(packet) = Packet::read(information.as_slice()) {
-            self.call(&IpCall::Hears(packet), secrets);
-        }
-    }
-
-    // A datagram of the peer's.
-    fn give(&mut self, information: &Frame)
-        requires given { length self.old.given < 4 }
-        requires agrees { Agrees self.old }
-        ensures new { self.new ≡ gave information.now self.old }
-        ensures agrees { Agrees self.new }
-        ensures goes { Goes 0 self.old self.new }
-        ensures sent { self.new.sent ≡ self.old.sent }
-        ensures given { length self.new.given ≤ length self.old.given + 1 }
-    {
-        if self.is_open() {
-            let mut datagram = Datagram::new();
-            datagram.append(information.as_slice());
-            self.given.push(datagram);
-            self.pass();
-        } else {
-            self.counts.not_open = self.counts.not_open.saturating_add(1);
-        }
-    }
-
-    // A datagram for the peer.
-    pub(crate) fn carry(&mut self, datagram: &Datagram)
-        requires sent { length self.old.sent ≤ 8 }
-        requires agrees { Agrees self.old }
-        ensures new { self.new ≡ carried datagram.now self.old }
-        ensures agrees { Agrees self.new }
-        ensures goes { Goes 0 self.old self.new }
-    {
-        if !self.is_open() {
-            self.counts.not_open = self.counts.not_open.saturating_add(1);
-        } else if datagram.len() <= usize::from(self.most_to_peer()) {
-            self.send_datagram(datagram);
-            self.pass();
-        } else {
-            self.counts.too_big = self.counts.too_big.saturating_add(1);
+        if self.drop_member(link, stay) {
+            self.use_all(packets, count, secrets);
         }
     }
 

@@ -1,25 +1,27 @@
-ghost use Rattle.std.specs.Prelude.{◌≡◌, ◌+◌, ◌≤◌, ◌<◌, ◌^◌, ◌++◌, ◌∷◌, [], true, false, Some, None, IfSome, IsSome, List, ℕ, is_some, length, IsOk, OnOk, OnErr, IfErr, ◌↔◌, option_to_list};
+ghost use Rattle.std.specs.Prelude.{◌≡◌, ◌+◌, ◌≤◌, ◌<◌, ◌^◌, ◌++◌, ◌∷◌, [], Bool, true, false, Some, None, IfSome, IsSome, List, ℕ, is_some, length, IsOk, OnOk, OnErr, IfErr, ◌↔◌, option_to_list};
 ghost use Rattle.ppp_base.specs.declared.hook_target.HookTarget.TheVariants.{Unit as OfUnit};
 ghost use Rattle.ppp_base.specs.declared.protocol.TheConstants.{IP};
+ghost use Rattle.ppp_base.specs.RingAfter.{one_more};
 ghost use Rattle.ppp_mark.specs.Log.{room_of};
 ghost use Rattle.ppp_mark.specs.ScriptLog.{IsRunningJob};
 ghost use Rattle.ppp_bundle.specs.Closing.{closed, closed_if, connect_end, crowded_end, end_of, idle_end, looked};
-ghost use Rattle.ppp_bundle.specs.Frames.{brought, carried, gave, heard, one_more, passed, not_open, stranger, too_big, with_pass};
+ghost use Rattle.ppp_bundle.specs.Fits.{Fits};
+ghost use Rattle.ppp_bundle.specs.declared.outbox.TheConstants.{MOST_SENT};
+ghost use Rattle.ppp_bundle.specs.Frames.{brought, carried, gave, heard, passed, not_open, stranger, too_big, with_pass};
 ghost use Rattle.ppp_bundle.specs.IpCalls.{called, finish_of, finished, followed, sends_all, turned, went_up_of};
 ghost use Rattle.ppp_bundle.specs.Member.{has_link, without};
 ghost use Rattle.ppp_bundle.specs.Replay.{LogSays, SaysSame};
-ghost use Rattle.ppp_bundle.specs.Sends.{sending, sends, whole_on};
+ghost use Rattle.ppp_bundle.specs.Sends.{sends};
 ghost use Rattle.ppp_bundle.specs.Sound.{Agrees, Goes, HasRoom, IsTurning, Moves, is_open_in, SomeSession};
 ghost use Rattle.ppp_bundle.specs.State.{is_open, is_up, members_of, most_to_peer};
 ghost use Rattle.ppp_bundle.specs.UnitPart.{begun, entered, framed, left_of, made, script_over, ticked_unit};
 ghost use Rattle.ppp_packet.specs.PacketOf.{packet_in};
 
 use crate::live::{IpCall, Live, has_finished};
-use crate::member::{Member, MemberList};
-use crate::outbox::{BundleEnd, Ending, GivenList, Sending, SentList, UnitCounts};
+use crate::outbox::{BundleEnd, Ending, GivenList, SentList, UnitCounts};
 use crate::scripts::{end_script, open_ip, put, shut_ip, unmake};
 use crate::wish::UnitWish;
-use ppp_base::{Allow, CloseCause, Datagram, Frame, LinkId, Mrru, Unit, protocol};
+use ppp_base::{CloseCause, Datagram, Unit, protocol};
 use ppp_control::Packets;
 use ppp_hooks::HookDone;
 use ppp_ipcp::IpcpOut;
@@ -36,6 +38,8 @@ pub(crate) struct UnitCore<S: Spawner> {
     pub(crate) unit: Unit,
     pub(crate) time: u64,
     pub(crate) scripts: ScriptLog<S>,
+    // How many bundles were made.
+    pub(crate) bundles: u32,
     pub(crate) live: Option<Live>,
     pub(crate) gather: Gather,
     pub(crate) sent: SentList,
@@ -49,7 +53,7 @@ impl<S: Spawner> Model for UnitCore<S> {
 
     ghost Value = { UnitState S };
 
-    ghost view = { λ u. record { unit = u.unit; time = u.time; scripts = u.scripts; live = u.live; gather = u.gather; sent = u.sent; given = u.given; ended = u.ended; counts = u.counts } };
+    ghost view = { λ u. record { unit = u.unit; time = u.time; scripts = u.scripts; bundles = u.bundles; live = u.live; gather = u.gather; sent = u.sent; given = u.given; ended = u.ended; counts = u.counts } };
 }
 
 // Why a bundle ends whose IPCP has finished.
@@ -95,21 +99,6 @@ fn end_of(ending: Ending, live: &Live) -> BundleEnd
     }
 }
 
-// A packet on the one member.
-fn whole_on(members: &MemberList, protocol: u16, information: Frame) -> Option<Sending>
-    ensures { option_to_list result ≡ whole_on members.now protocol information }
-{
-    match members.as_slice() {
-        [] => None,
-        [first, ..] => Some(Sending {
-            link: first.link,
-            protocol,
-            information,
-            rejected: false,
-        }),
-    }
-}
-
 impl<S: Spawner> UnitCore<S> {
     // The bundle is closed at once.
     fn close(&mut self, ending: Ending)
@@ -152,33 +141,19 @@ impl<S: Spawner> UnitCore<S> {
         }
     }
 
-    // A packet to the peer.
-    fn send(&mut self, protocol: u16, information: Frame)
-        requires room { length self.old.sent < 16 }
-        requires plain { IfSome self.old.live (λ l. l.mrru ≡ None) }
-        ensures new { self.new ≡ sends protocol information self.old }
-        ensures rest { self.new ≡ record self.old { sent = self.new.sent } }
-        ensures few { length self.new.sent ≤ length self.old.sent + 1 }
+    // The bundle that lives is this one, and sends IPCP's packets.
+    #[tactic(auto, using(crate::proofs::CallFacts::sends_all_is, crate::proofs::CallFacts::still_turning))]
+    fn send_all(&mut self, live: Live, packets: &Packets)
+        requires room { length self.old.sent + 51 ≤ MOST_SENT }
+        requires fits { Fits live }
+        ensures new { self.new ≡ sends_all packets.now (record self.old { live = Some live }) }
+        ensures rest { self.new ≡ record self.old { live = self.new.live; sent = self.new.sent } }
+        ensures turning { (was is : Bool) → IsTurning was is (record self.old { live = Some live }) → IsTurning was is self.new }
+        ensures few { length self.new.sent ≤ length self.old.sent + 51 }
     {
-        if let Some(live) = &self.live {
-            if let Some(sending) = whole_on(&live.members, protocol, information) {
-                self.sent.push(sending);
-            }
-        }
-    }
-
-    // IPCP's packets to the peer.
-    fn send_all(&mut self, packets: &Packets)
-        requires room { length self.old.sent ≤ 8 }
-        requires plain { IfSome self.old.live (λ l. l.mrru ≡ None) }
-        ensures new { self.new ≡ sends_all packets.now self.old }
-        ensures rest { self.new ≡ record self.old { sent = self.new.sent } }
-        ensures few { length self.new.sent ≤ length self.old.sent + 3 }
-    {
-        let list = packets.as_slice();
-        'sending: for packet in list {
-            self.send(protocol::IPCP, packet.to_frame());
-        }
+        let mut live = live;
+        live.send_all(packets, &mut self.sent);
+        self.live = Some(live);
     }
 
     // IPCP has come to Opened.
@@ -227,20 +202,18 @@ impl<S: Spawner> UnitCore<S> {
     // IPCP was called, and told this.
     fn follow(&mut self, was: bool, live: Live, out: IpcpOut)
         requires room { 40 ≤ room_of self.old.scripts.log }
-        requires sent { length self.old.sent ≤ 8 }
+        requires sent { length self.old.sent + 51 ≤ MOST_SENT }
         requires turning { IsTurning was (is_up live) (record self.old { live = Some live }) }
-        requires plain { live.mrru ≡ None }
         ensures new { self.new ≡ followed was live out self.old }
         ensures agrees { Agrees self.new }
         ensures moves { Moves 24 self.old.scripts self.new.scripts }
         ensures time { self.new.time ≡ self.old.time }
         ensures given { self.new.given ≡ self.old.given }
-        ensures sent { length self.new.sent ≤ length self.old.sent + 3 }
+        ensures sent { length self.new.sent ≤ length self.old.sent + 51 }
     {
         let is = live.is_up();
         let by_peer = live.by_peer;
-        self.live = Some(live);
-        self.send_all(&out.packets);
+        self.send_all(live, &out.packets);
         self.turn(was, is);
         if has_finished(&out.acts) {
             self.close(finish_of(by_peer));
@@ -250,13 +223,13 @@ impl<S: Spawner> UnitCore<S> {
     // IPCP of the bundle that lives is called.
     pub(crate) fn call(&mut self, call: &IpCall, secrets: &SecretsPair)
         requires room { HasRoom 40 self.old }
-        requires sent { length self.old.sent ≤ 8 }
+        requires sent { length self.old.sent + 51 ≤ MOST_SENT }
         requires agrees { Agrees self.old }
         ensures new { self.new ≡ called secrets.now call.now self.old }
         ensures agrees { Agrees self.new }
         ensures goes { Goes 24 self.old self.new }
         ensures time { self.new.time ≡ self.old.time }
-        ensures sent { length self.new.sent ≤ length self.old.sent + 3 }
+        ensures sent { length self.new.sent ≤ length self.old.sent + 51 }
         ensures given { self.new.given ≡ self.old.given }
     {
         if let Some(mut live) = self.live.take() {
@@ -298,15 +271,19 @@ impl<S: Spawner> UnitCore<S> {
     }
 
     // A datagram is sent.
+    #[tactic(auto, using(crate::proofs::CallFacts::still_agrees))]
     pub(crate) fn send_datagram(&mut self, datagram: &Datagram)
-        requires room { length self.old.sent < 16 }
-        requires plain { IfSome self.old.live (λ l. l.mrru ≡ None) }
-        requires fits { length datagram.now ≤ 1500 }
+        requires room { length self.old.sent + 17 ≤ MOST_SENT }
+        requires agrees { Agrees self.old }
+        requires whole { IfSome self.old.live (λ l. l.mrru ≡ None → length datagram.now ≤ 1508) }
         ensures new { self.new ≡ sends IP datagram.now self.old }
-        ensures rest { self.new ≡ record self.old { sent = self.new.sent } }
+        ensures agrees { Agrees self.new }
+        ensures rest { self.new ≡ record self.old { live = self.new.live; sent = self.new.sent } }
+        ensures lives { is_some self.new.live ≡ is_some self.old.live }
     {
-        let mut information = Frame::new();
-        information.append(datagram.as_slice());
-        self.send(protocol::IP, information);
+        if let Some(mut live) = self.live.take() {
+            live.send(protocol::IP, datagram.as_slice(), &mut self.sent);
+            self.live = Some(live);
+        }
     }
 }

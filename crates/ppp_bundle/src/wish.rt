@@ -1,4 +1,4 @@
-ghost use Rattle.std.specs.Prelude.{◌≤◌};
+ghost use Rattle.std.specs.Prelude.{◌≡◌, ◌≤◌};
 
 use ppp_base::Name;
 use ppp_ipcp::IpWish;
@@ -18,4 +18,19 @@ pub struct UnitWish {
     pub param: Name,
     ghost restart: { 1 ≤ ip.restart_s },
     ghost max_failure: { 1 ≤ ip.max_failure },
+}
+
+impl UnitWish {
+    /// The same wish again. It takes no memory.
+    pub fn copy(&self) -> UnitWish
+        ensures { result ≡ self.now }
+    {
+        UnitWish {
+            ip: self.ip,
+            idle_s: self.idle_s,
+            maxconnect_s: self.maxconnect_s,
+            device: self.device.copy(),
+            param: self.param.copy(),
+        }
+    }
 }

@@ -1,7 +1,7 @@
 ghost use Rattle.std.specs.Prelude.{◌≡◌, ◌+◌, ◌<◌, ◌≤◌, IfOk, option_map};
 
-use ppp_base::NoMemory;
 use ppp_bare::{Bare, MOST_MARKS};
+use ppp_base::NoMemory;
 use ppp_fsm::{Acts, FsmEvent};
 use ppp_hooks::{HookJob, HookStart};
 use ppp_outside::{ReplaySpawner, ScriptEnd};

@@ -1,13 +1,8 @@
-use Rattle.std.proofs.Common.{None, ap, sym}
-use Rattle.ppp_bundle.specs.State.{UnitState}
+use Rattle.std.proofs.Common.{rules}
 use Rattle.ppp_bundle.proofs.CountFacts.{event_counts, moved_counts}
 use Rattle.ppp_bundle.proofs.unit_state.UnitCore.step.Goals as goal
 
 pub returns-in-Taken-clause-counts : goal.returns-in-Taken-clause-counts
 returns-in-Taken-clause-counts g c t f counts =
-    let i = c.self.inside in
     moved_counts g.S.Spawner.tries g.S.Spawner.faults t f 20 _ c.look.new.self.scripts c.look.ensures.goes.moves
-    (c.in-Taken.ensures.counts t f
-    (event_counts g.S.Spawner.tries g.S.Spawner.faults t f c.args.event c.args.self.now
-    (record { unit = i.unit; time = i.time; scripts = i.scripts; live = i.live; gather = i.gather; sent = i.sent; given = i.given; ended = None; counts = i.counts })
-    (ap (λ (u : UnitState _). u.scripts.machine) (sym c.self.view_is)) counts))
+    (c.in-Taken.ensures.counts t f (event_counts g.S.Spawner.tries g.S.Spawner.faults t f c.args.event c.args.self.now _ (search rules) counts))
