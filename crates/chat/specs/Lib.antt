@@ -1,0 +1,5 @@
+pub mod Asked
+pub mod Heard
+pub mod Talks
+pub mod Talking
+pub mod Run
