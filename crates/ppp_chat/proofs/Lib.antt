@@ -15,3 +15,5 @@ pub mod WordsRead
 pub mod TalkLemmas
 pub mod FirstFault
 pub mod FirstEnding
+pub mod SendEnds
+pub mod AbortNumbers

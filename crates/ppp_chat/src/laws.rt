@@ -1,5 +1,5 @@
 // Laws of the definitions that the contracts cite.
-ghost use Rattle.std.specs.Prelude.{◌≡◌, ◌+◌, ◌<◌, ◌++◌, ◌∷◌, [], ℕ, Bool, List, Option, Some, None, Ok, Err, IsOk, codes, replicate, take};
+ghost use Rattle.std.specs.Prelude.{◌≡◌, ◌+◌, ◌<◌, ◌≤◌, ◌++◌, ◌∷◌, [], ℕ, Bool, List, Option, Some, None, Ok, Err, IsOk, codes, replicate, take};
 ghost use Rattle.ppp_chat.specs.ChatOf.{ChatOf};
 ghost use Rattle.ppp_chat.specs.ChatState.{Answers};
 ghost use Rattle.ppp_chat.specs.Course.{course};
@@ -21,6 +21,18 @@ use crate::now::{ChatEnd, ChatNow};
 pub fn an_end_stays()
     ensures { (script : ChatScript) (events more : List Event) (how : ChatEnd) → (ChatOf script events).outcome ≡ Some how
         → ChatOf script (events ++ more) ≡ ChatOf script events }
+{}
+
+/// A call at which octets are sent ends no script.
+pub fn a_send_is_no_end()
+    ensures { (script : ChatScript) (calls : List Event) (call : Event) (octets : List ℕ) → Answers script calls call (Sent octets)
+        → (ChatOf script (calls ++ call ∷ [])).outcome ≡ None }
+{}
+
+/// The number of an abort string that ends a script is from 1 to 50.
+pub fn an_abort_has_its_number()
+    ensures { (words : List (List ℕ)) (script : ChatScript) (events : List Event) (number : ℕ) → script_of words ≡ Ok script.items
+        → (ChatOf script events).outcome ≡ Some (ChatEnd.Aborted number) → (1 ≤ number) × (number ≤ 50) }
 {}
 
 /// A call's answer is that which rows of answers list.
