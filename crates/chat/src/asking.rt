@@ -1,8 +1,8 @@
-ghost use Rattle.std.specs.Prelude.{◌≡◌, ◌≤◌, IfOk, length, map, drop, IfSome};
+ghost use Rattle.std.specs.Prelude.{◌≡◌, ◌≤◌, false, IfOk, length, map, drop};
 ghost use Rattle.std.specs.String.{string_bytes};
 ghost use Rattle.ppp_chat.specs.Words.{script_of};
 ghost use Rattle.ppp_chat_words.specs.Split.{octets_in};
-ghost use Rattle.chat.specs.Asked.{GivesPlan, Plans, PlansOfFile, script_plan, word_at};
+ghost use Rattle.chat.specs.Asked.{GivesPlan, Plans, PlansOfFile, files_failed, script_plan, word_at};
 
 use crate::ending::Refusal;
 use crate::plan::Plan;
@@ -53,7 +53,8 @@ fn script_plan(
     words: &[Vec<u8>],
 ) -> Result<Plan, Refusal>
     requires { length line.now ≤ 255 }
-    ensures { GivesPlan result (script_plan line.now timeout_s (script_of (octets_in words.now))) }
+    ensures gives { GivesPlan result (script_plan line.now timeout_s (script_of (octets_in words.now))) }
+    ensures sound { files_failed result ≡ false }
 {
     let Some(line) = Octets::from_octets(line) else {
         return Err(Refusal::OtherWords);

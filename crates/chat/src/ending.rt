@@ -68,8 +68,8 @@ impl TalkEnd {
 }
 
 impl Refusal {
-    // The status where nothing is dialled.
-    fn status(self) -> u8
+    /// The status where nothing is dialled.
+    pub fn status(self) -> u8
         ensures { result ≡ refused_status self }
     {
         match self {

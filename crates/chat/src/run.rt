@@ -4,7 +4,7 @@ ghost use Rattle.ppp_chat_words.specs.FileWords.{words_at};
 ghost use Rattle.ppp_outside.specs.Files.{NamedFile};
 ghost use Rattle.ppp_words.specs.declared.backslash.Backslash.TheVariants.{Kept};
 ghost use Rattle.chat.specs.Asked.{planned};
-ghost use Rattle.chat.specs.Run.{Answers, HasCause, IsStatusOf, PlanRuns, TellsOf};
+ghost use Rattle.chat.specs.Run.{Answers, HasCause, IsStatusOf, PlanRuns, TellsOf, refused_status};
 
 use crate::asking::read_plan;
 use crate::ending::{Ending, Refusal};
@@ -38,6 +38,15 @@ fn tell<O: Sink>(errors: &mut O, refusal: Refusal)
         Refusal::NoFile | Refusal::FilesFailed | Refusal::NoMemory => return,
     };
     let _ = write_whole(errors, text);
+}
+
+/// Tells why nothing is dialled, and answers the status.
+pub fn refuse<O: Sink>(errors: &mut O, refusal: Refusal) -> u8
+    ensures tells { TellsOf refusal (O.state errors.old) (O.state errors.new) }
+    ensures status { result ≡ refused_status refusal }
+{
+    tell(errors, refusal);
+    refusal.status()
 }
 
 // Dials the line, and runs the script over it.
@@ -107,12 +116,9 @@ pub fn chat_run<R: Wait, D: Dialer, F: Files, C: Clock, O: Sink>(
                 line,
             }
         }
-        Err(refusal) => {
-            tell(errors, refusal);
-            ChatRun {
-                status: Ending::Refused(refusal).status(),
-                line: None,
-            }
-        }
+        Err(refusal) => ChatRun {
+            status: refuse(errors, refusal),
+            line: None,
+        },
     }
 }
