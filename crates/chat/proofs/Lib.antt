@@ -1,2 +1,4 @@
 mod AskedLemmas
+mod HeardLemmas
+mod RunLemmas
 mod TalkLemmas

@@ -126,14 +126,14 @@ module _ {I O C : Type 0} (input : I → LineState) (coming : I → Option LineA
     pub status_is : status ≡ status_of ending
     pub ends : Ends words ending old new line
 
-  -- what a line tells of its end: it failed, or was at its end
-  abbrev pub LineIsOut : Option (I × O) → Type 0
-  LineIsOut None = ⊥
-  LineIsOut (Some line) = Rose 0 (input line.0).faults ⊎ (Rose 0 (input line.0).ends ⊎ Rose 0 (output line.1).faults)
+-- A line that is given back has failed, at a read or at a write, or was at its end.
+abbrev pub LineIsOut : {I O : Type 0} → (I → LineState) → (O → SinkState) → Option (I × O) → Type 0
+LineIsOut input output None = ⊥
+LineIsOut input output (Some line) = Rose 0 (input line.0).faults ⊎ (Rose 0 (input line.0).ends ⊎ Rose 0 (output line.1).faults)
 
-  -- The outside failed, or the line was at its end.
-  abbrev pub HasCause : Outside C → Outside C → Option (I × O) → Type 0
-  HasCause old new line = Rose old.files.faults new.files.faults ⊎ (Rose old.dialer.faults new.dialer.faults ⊎ LineIsOut line)
+-- The outside failed, or the line was at its end.
+abbrev pub HasCause : {I O C : Type 0} → (I → LineState) → (O → SinkState) → Outside C → Outside C → Option (I × O) → Type 0
+HasCause input output old new line = Rose old.files.faults new.files.faults ⊎ (Rose old.dialer.faults new.dialer.faults ⊎ LineIsOut input output line)
 
 -- The status is one that words have which ask for this; 2 for another cause, and 64, where memory runs out, are always among them.
 abbrev pub IsStatusOf : Result Plan Refusal → Type 0 → ℕ → Type 0

@@ -4,7 +4,7 @@ ghost use Rattle.ppp_chat_words.specs.FileWords.{words_at};
 ghost use Rattle.ppp_outside.specs.Files.{NamedFile};
 ghost use Rattle.ppp_words.specs.declared.backslash.Backslash.TheVariants.{Kept};
 ghost use Rattle.chat.specs.Asked.{planned};
-ghost use Rattle.chat.specs.Run.{Answers, HasCause, IsStatusOf, PlanRuns, TellsOf, refused_status};
+ghost use Rattle.chat.specs.Run.{Answers, HasCause, IsStatusOf, PlanRuns, Tells, TellsOf, refused_status};
 
 use crate::asking::read_plan;
 use crate::ending::{Ending, Refusal};
@@ -28,16 +28,22 @@ struct Ran<D: Dialer> {
     line: Option<(D::In, D::Out)>,
 }
 
-// Tells why nothing is dialled.
+// Writes a text, as far as the sink takes it.
+fn put<O: Sink>(errors: &mut O, text: &[u8])
+    ensures { Tells (O.state errors.old) (O.state errors.new) text.now }
+{
+    let _ = write_whole(errors, text);
+}
+
+// Tells why nothing is dialled, where that is to be told.
 fn tell<O: Sink>(errors: &mut O, refusal: Refusal)
     ensures { TellsOf refusal (O.state errors.old) (O.state errors.new) }
 {
-    let text = match refusal {
-        Refusal::OtherWords => b"chat: usage\n".as_slice(),
-        Refusal::BadScript => b"chat: bad script\n".as_slice(),
-        Refusal::NoFile | Refusal::FilesFailed | Refusal::NoMemory => return,
-    };
-    let _ = write_whole(errors, text);
+    match refusal {
+        Refusal::OtherWords => put(errors, b"chat: usage\n"),
+        Refusal::BadScript => put(errors, b"chat: bad script\n"),
+        Refusal::NoFile | Refusal::FilesFailed | Refusal::NoMemory => {}
+    }
 }
 
 /// Tells why nothing is dialled, and answers the status.
