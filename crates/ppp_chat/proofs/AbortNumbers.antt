@@ -27,13 +27,13 @@ use Rattle.ppp_chat.proofs.SettingsSteps.{settings-more}
 
 -- ---- a script that was read sets 50 abort strings at once at most
 
-kept : (b : Bool) (x : List ℕ) (xs kept : List (List ℕ)) → length kept ≤ length xs → length (cond b (x ∷ kept) kept) ≤ length (x ∷ xs)
-kept true x xs kept less = omega arith
-kept false x xs kept less = omega arith
+kept-fewer : (b : Bool) (x : List ℕ) (xs those : List (List ℕ)) → length those ≤ length xs → length (cond b (x ∷ those) those) ≤ length (x ∷ xs)
+kept-fewer true x xs those less = omega arith
+kept-fewer false x xs those less = omega arith
 
 fewer : (p : List ℕ → Bool) (xs : List (List ℕ)) → length (filter p xs) ≤ length xs
 fewer p [] = omega arith
-fewer p (x ∷ xs) = kept (p x) x xs (filter p xs) (fewer p xs)
+fewer p (x ∷ xs) = kept-fewer (p x) x xs (filter p xs) (fewer p xs)
 
 cleared-few : (before : List Directive) (text : List ℕ) → length (aborts_of before) ≤ 50 → length (aborts_of (before ++ ClearAbort text ∷ [])) ≤ 50
 cleared-few before text few =
