@@ -2,3 +2,4 @@ mod AskedLemmas
 mod HeardLemmas
 mod RunLemmas
 mod TalkLemmas
+mod TellingLemmas

@@ -3,7 +3,8 @@ use Rattle.std.proofs.Common.{◌≡◌, ℕ, ◌⊎◌, zero, suc, min, List, [
 use Rattle.std.specs.Io.KnownBytes.{Appends}
 use Rattle.ppp_chat.specs.ChatOf.{ChatOf}
 use Rattle.ppp_chat.specs.ChatState.{Answers, ChatState, IsBegun, StandsFor, answer}
-use Rattle.ppp_chat.specs.Event.{Event, tick_at}
+use Rattle.ppp_chat.specs.Event.{tick_at}
+use Rattle.ppp_chat.specs.declared.event.Event.{Event}
 use Rattle.ppp_chat.specs.Script.{ChatScript}
 use Rattle.ppp_chat.specs.declared.now.ChatEnd.{ChatEnd}
 use Rattle.ppp_chat.specs.declared.now.ChatEnd.TheVariants as how

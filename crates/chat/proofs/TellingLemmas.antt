@@ -1,8 +1,9 @@
 -- What a line and a clock tell of the calls of a conversation.
-use Rattle.std.proofs.Common.{◌≡◌, ℕ, ◌+◌, ◌≤◌, zero, suc, max, min, List, [], ◌∷◌, ◌++◌, length, map, take, Option, None, Some, IfSome, refl, sym, ap, ◌∙◌, subst, arith, append_assoc, append-nil, length-append}
+use Rattle.std.proofs.Common.{◌≡◌, ℕ, ◌+◌, ◌≤◌, zero, suc, max, min, List, [], ◌∷◌, ◌++◌, length, map, take, drop, Option, None, Some, IfSome, refl, sym, ap, ◌∙◌, subst, arith, append_assoc, append-nil, length-append}
 use Rattle.std.specs.Prelude.{option_map}
 use Rattle.std.specs.Io.KnownBytes.{Consumes}
-use Rattle.ppp_chat.specs.Event.{Event, heard, tick_at}
+use Rattle.ppp_chat.specs.Event.{heard, tick_at}
+use Rattle.ppp_chat.specs.declared.event.Event.{Event}
 use Rattle.ppp_outside.specs.Clock.{ClockState, Reads}
 use Rattle.ppp_outside.specs.Contents.{GrowsBy, GrowsWhereTold}
 use Rattle.ppp_outside.specs.Counts.{last, raised}
@@ -109,9 +110,8 @@ module _ {I C : Type 0} (line : I → LineState) (coming : I → Option LineAnsw
       }
 
   pub line_tells : (before after : I) (earlier later : C) (calls : List Event) → Listens line coming clock before after earlier later calls
-      → (events : List Event) × (begin : Event) × (calls ≡ begin ∷ events) × LineTells (line before) (line after) events
-  line_tells before after earlier later calls l =
-      (l.events, tick_at (moment l.reading), l.calls_are, line_all l.events before after l.begun later l.heard)
+      → LineTells (line before) (line after) (drop 1 calls)
+  line_tells before after earlier later calls l = rw l.calls_are (line_all l.events before after l.begun later l.heard)
 
   pub clock_tells : (before after : I) (earlier later : C) (calls : List Event) → Listens line coming clock before after earlier later calls
       → ClockTells (clock earlier) (clock later) calls

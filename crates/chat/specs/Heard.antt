@@ -1,6 +1,7 @@
 -- What a conversation hears: the line is read octet by octet, and behind each read the clock.
 use Rattle.std.specs.Prelude.{◌≡◌, ℕ, ◌^◌, min, List, [], ◌∷◌, length, Option, None, Some, IfSome}
-use Rattle.ppp_chat.specs.Event.{Event, tick_at}
+use Rattle.ppp_chat.specs.Event.{tick_at}
+use Rattle.ppp_chat.specs.declared.event.Event.{Event}
 use Rattle.ppp_outside.specs.Clock.{ClockState, Reads}
 use Rattle.ppp_outside.specs.Line.{AnswersAs, LineState, ReadsLine, given}
 use Rattle.ppp_outside.specs.declared.line_in.LineAnswer.{LineAnswer}

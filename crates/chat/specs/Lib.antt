@@ -2,4 +2,6 @@ pub mod Asked
 pub mod Heard
 pub mod Talks
 pub mod Talking
+pub mod Telling
 pub mod Run
+pub mod Rows

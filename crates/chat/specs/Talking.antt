@@ -2,7 +2,7 @@
 use Rattle.std.specs.Prelude.{◌≡◌, ℕ, List, [], ◌∷◌, ◌++◌, Option, None, Some, Result, Ok, Err}
 use Rattle.ppp_chat.specs.ChatOf.{ChatOf}
 use Rattle.ppp_chat.specs.ChatState.{Answers, ChatState, IsBegun, StandsFor}
-use Rattle.ppp_chat.specs.Event.{Event}
+use Rattle.ppp_chat.specs.declared.event.Event.{Event}
 use Rattle.ppp_chat.specs.Script.{ChatScript}
 use Rattle.ppp_chat.specs.declared.now.ChatEnd.TheVariants as how
 use Rattle.ppp_chat.specs.declared.now.ChatNow.{ChatNow}

@@ -1,7 +1,7 @@
 -- A conversation over a line: what is heard, what the script sends at it, and how it ends (chat(8), "Chat script").
 use Rattle.std.specs.Prelude.{◌≡◌, ℕ, List, [], ◌∷◌, ◌++◌, take, Option, None, Some}
 use Rattle.ppp_chat.specs.ChatOf.{ChatOf}
-use Rattle.ppp_chat.specs.Event.{Event}
+use Rattle.ppp_chat.specs.declared.event.Event.{Event}
 use Rattle.ppp_chat.specs.Script.{ChatScript}
 use Rattle.ppp_chat.specs.declared.now.ChatEnd.{ChatEnd}
 use Rattle.ppp_outside.specs.Clock.{ClockState}

@@ -1,7 +1,8 @@
 -- What a line and a clock tell of the calls of a conversation: no octet is lost, each answer is an event, and each event has its reading.
 use Rattle.std.specs.Prelude.{◌≡◌, ℕ, ◌+◌, List, [], ◌∷◌, length, map, drop, Option, None, Some}
 use Rattle.std.specs.Io.KnownBytes.{Consumes}
-use Rattle.ppp_chat.specs.Event.{Event, heard}
+use Rattle.ppp_chat.specs.Event.{heard}
+use Rattle.ppp_chat.specs.declared.event.Event.{Event}
 use Rattle.ppp_outside.specs.Clock.{ClockState}
 use Rattle.ppp_outside.specs.Contents.{GrowsBy, GrowsWhereTold}
 use Rattle.ppp_outside.specs.Counts.{raised}

@@ -3,6 +3,7 @@
 
 mod asking;
 mod ending;
+mod laws;
 mod plan;
 mod run;
 mod talking;
