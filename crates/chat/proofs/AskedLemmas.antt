@@ -189,22 +189,22 @@ said_nothing : (words : List (List ℕ)) (said : ChatWords) (wrong line : Option
 said_nothing words said None line is = rw is refl
 said_nothing words said (Some wrong) line is = refl
 
+each_there : (files : Option (List NamedFile)) → IfSome files (λ all. (name : List ℕ) → there files name ≡ words_at Kept all name)
+unfolding there
+each_there None = tt
+each_there (Some all) = λ name. refl
+
 -- nothing was asked of the files
 unread : (s : FilesState) (words : List (List ℕ)) (answer : Result Plan Refusal) → files_failed answer ≡ false
     → ((files : List ℕ → Option FrontWords) → GivesPlan answer (planned files words)) → Plans s s words answer
 unread s words answer sound gives = record {
   files = there s.files;
-  where_told = each s.files;
+  where_told = each_there s.files;
   gives = gives (there s.files);
   same = refl;
   faults = rw sound refl;
   unasked = λ none. refl;
 }
-  where
-    each : (files : Option (List NamedFile)) → IfSome files (λ all. (name : List ℕ) → there files name ≡ words_at Kept all name)
-    unfolding there
-    each None = tt
-    each (Some all) = λ name. refl
 
 no_task : (s : FilesState) (words : List (List ℕ)) → task_of words ≡ None → Plans s s words (Err OtherWords)
 no_task s words none = unread s words (Err OtherWords) refl (λ files. rw none refl)
@@ -234,6 +234,22 @@ script_behind s words said at answer is right line none gives sound =
     let task = task_is words said at is right line in
     unread s words answer sound (λ files. rw (task, none) gives)
 
+-- the words of each file, where they are told, and else those of this one
+in_file : Option (List NamedFile) → Option FrontWords → List ℕ → Option FrontWords
+in_file None front other = front
+in_file (Some all) front other = words_at Kept all other
+
+in_file_told : (files : Option (List NamedFile)) (front : Option FrontWords) → IfSome files (λ all. (other : List ℕ) → in_file files front other ≡ words_at Kept all other)
+unfolding in_file
+in_file_told None front = tt
+in_file_told (Some all) front = λ other. refl
+
+in_file_gives : (line : List ℕ) (timeout_s : ℕ) (name : List ℕ) (answer : Result Plan Refusal) (files : Option (List NamedFile)) (front : Option FrontWords)
+    → IfSome files (λ all. front ≡ words_at Kept all name) → GivesPlan answer (file_plan line timeout_s front) → GivesPlan answer (file_plan line timeout_s (in_file files front name))
+unfolding in_file
+in_file_gives line timeout_s name answer None front told gives = gives
+in_file_gives line timeout_s name answer (Some all) front told gives = rw (← told) gives
+
 -- a script in a file
 pub script_in_file : (old new : FilesState) (words : List (List ℕ)) (said : ChatWords) (at name : ℕ) (answer : Result Plan Refusal) → said ≡ told true words
     → is_some said.wrong ≡ false → said.line ≡ Some at → said.file ≡ Some name → PlansOfFile old new (word_at words at) said.timeout_s (word_at words name) answer
@@ -242,23 +258,9 @@ script_in_file old new words said at name answer is right line file p =
     let task = task_is words said at is right line in
     record {
       files = in_file old.files p.front;
-      where_told = each old.files;
-      gives = rw (task, file) (given old.files p.front p.where_told p.gives);
+      where_told = in_file_told old.files p.front;
+      gives = rw (task, file) (in_file_gives (word_at words at) said.timeout_s (word_at words name) answer old.files p.front p.where_told p.gives);
       same = p.same;
       faults = p.faults;
       unasked = λ none. absurd (none (rw (task, file) refl));
     }
-  where
-    -- the words of each file, where they are told, and else those of this one
-    in_file : Option (List NamedFile) → Option FrontWords → List ℕ → Option FrontWords
-    in_file None front other = front
-    in_file (Some all) front other = words_at Kept all other
-    each : (files : Option (List NamedFile)) → IfSome files (λ all. (other : List ℕ) → in_file files p.front other ≡ words_at Kept all other)
-    unfolding in_file
-    each None = tt
-    each (Some all) = λ other. refl
-    given : (files : Option (List NamedFile)) (front : Option FrontWords) → IfSome files (λ all. front ≡ words_at Kept all (word_at words name))
-        → GivesPlan answer (file_plan (word_at words at) said.timeout_s front) → GivesPlan answer (file_plan (word_at words at) said.timeout_s (in_file files front (word_at words name)))
-    unfolding in_file
-    given None front told gives = gives
-    given (Some all) front told gives = rw (← told) gives

@@ -28,13 +28,13 @@ consumes_none None = tt
 consumes_none (Some a) = refl
 
 grows_then : {A : Type 0} (a b c : Option (List A)) (xs ys : List A) → GrowsBy xs a b → GrowsBy ys b c → GrowsBy (xs ++ ys) a c
-grows_then None b c xs ys p q = q ∙ ap (λ (o : Option (List A)). option_map (λ kept. kept ++ ys) o) p
-grows_then (Some a) b c xs ys p q =
+grows_then {A = A} None b c xs ys p q = q ∙ ap (λ (o : Option (List A)). option_map (λ kept. kept ++ ys) o) p
+grows_then {A = A} (Some a) b c xs ys p q =
     q ∙ ap (λ (o : Option (List A)). option_map (λ kept. kept ++ ys) o) p ∙ ap (λ (l : List A). Some l) (append_assoc a xs ys)
 
 grows_none : {A : Type 0} (a : Option (List A)) → GrowsBy [] a a
-grows_none None = refl
-grows_none (Some a) = ap (λ (l : List A). Some l) (sym (append-nil a))
+grows_none {A = A} None = refl
+grows_none {A = A} (Some a) = ap (λ (l : List A). Some l) (sym (append-nil a))
 
 told_then : (a b c : Option (List ℕ)) (xs ys : List ℕ) → GrowsWhereTold xs a b → GrowsWhereTold ys b c → GrowsWhereTold (xs ++ ys) a c
 told_then a b None xs ys p q = tt

@@ -86,8 +86,8 @@ pub fn talk<R: Wait, I: LineIn, O: Sink, C: Clock>(
     ensures { Talks I.state I.coming C.state script result input.old input.new clock.old clock.new (O.state output.old) (O.state output.new) }
 {
     let mut chat = Chat::new(script);
-    let now = clock.now_ms().min(LATEST_MS);
-    let mut answer = chat.begin(now);
+    let began = clock.now_ms().min(LATEST_MS);
+    let mut answer = chat.begin(began);
     'talking: for _ in rt.forever() {
         if let Some(end) = say(output, &answer) {
             return end;
