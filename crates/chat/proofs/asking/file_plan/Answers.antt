@@ -9,3 +9,6 @@ returns-in-OpenQuote g c = quote_plan_of _ _ _ _ _ c.in-OpenQuote.field-0 c.in-O
 
 pub returns-in-Failed : goal.returns-in-Failed
 returns-in-Failed g c = failed_plan _ _ _ _ _ c.in-Failed.ensures
+
+pub returns : goal.returns
+returns g c = memory_plan _ _ _ _ _ c.in-NoMemory.ensures
