@@ -91,9 +91,9 @@ module _ {I C : Type 0} (line : I → LineState) (coming : I → Option LineAnsw
         octets = rw (heard_cons event events) (consumes_then (line before).left (line h.0).left (line after).left (listed event.octet) (heard events) one.0 rest.octets);
         answers = grows_then (line before).answers (line h.0).answers (line after).answers (answer_for event.octet ∷ []) (answers_for events) one.1 rest.answers;
         taken =
-          rest.taken ∙ ap (λ (n : ℕ). raised n (length (heard events))) one.2
-          ∙ raised_then (line before).taken (length (listed event.octet)) (length (heard events))
-          ∙ ap (λ (n : ℕ). raised (line before).taken n) (sym (length-append (listed event.octet) (heard events)) ∙ ap length (sym (heard_cons event events)));
+            rest.taken ∙ ap (λ (n : ℕ). raised n (length (heard events))) one.2
+            ∙ raised_then (line before).taken (length (listed event.octet)) (length (heard events))
+            ∙ ap (λ (n : ℕ). raised (line before).taken n) (sym (length-append (listed event.octet) (heard events)) ∙ ap length (sym (heard_cons event events)));
         faults = rest.faults ∙ one.3;
         ends = rest.ends ∙ one.4;
       }

@@ -90,11 +90,7 @@ fn file_plan<F: Files>(
 }
 
 // What the words ask for.
-fn plan_of<F: Files>(
-    alloc: Global,
-    files: &mut F,
-    words: &[Vec<u8>],
-) -> Result<Plan, Refusal>
+fn plan_of<F: Files>(alloc: Global, files: &mut F, words: &[Vec<u8>]) -> Result<Plan, Refusal>
     ensures { Plans (F.state files.old) (F.state files.new) (octets_in words.now) result }
 {
     let said = chat_words(words, true);
@@ -106,12 +102,7 @@ fn plan_of<F: Files>(
     };
     let line = word_at(words, line);
     match said.file {
-        None => script_plan(
-            alloc,
-            line,
-            said.timeout_s,
-            words_from(words, said.script),
-        ),
+        None => script_plan(alloc, line, said.timeout_s, words_from(words, said.script)),
         Some(name) => file_plan(alloc, files, line, said.timeout_s, word_at(words, name)),
     }
 }
