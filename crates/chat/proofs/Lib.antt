@@ -1,5 +1,6 @@
 mod AskedLemmas
 mod HeardLemmas
+mod OptionLemmas
 mod RunLemmas
 mod TalkLemmas
 mod TellingLemmas

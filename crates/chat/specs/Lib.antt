@@ -1,4 +1,5 @@
 pub mod Asked
+pub mod Options
 pub mod Heard
 pub mod Talks
 pub mod Talking

@@ -4,7 +4,7 @@ ghost use Rattle.ppp_outside.specs.Line.{IsNewLine};
 ghost use Rattle.ppp_outside.specs.MemorySink.{state_of as sink_state_of};
 ghost use Rattle.ppp_outside.specs.Sink.{IsNewSink};
 
-use crate::run::chat_run;
+use crate::run::{ChatRun, chat_run};
 use ppp_base::NoMemory;
 use ppp_memory::{
     LineParts, MemoryClock, MemoryDialer, MemoryFiles, MemoryLine, NewLine, StoredFile,
@@ -122,7 +122,7 @@ fn ran<R: Wait>(
     let mut clock = MemoryClock::new(0, Vec::from_slice(alloc, later)?);
     let mut errors = MemorySink::new(alloc, 40, 5, Vec::new(alloc))?;
     let words = strings(alloc, words)?;
-    let run = chat_run(
+    let ChatRun { status, line } = chat_run(
         rt,
         alloc,
         &words,
@@ -132,13 +132,11 @@ fn ran<R: Wait>(
         &mut errors,
     );
     let told = Vec::from_slice(alloc, errors.written())?;
-    match run.line {
-        None => Ok((run.status, Vec::new(alloc), told, dialer.asked().len())),
-        Some((_, output)) => {
-            let sent = Vec::from_slice(alloc, output.written())?;
-            Ok((run.status, sent, told, dialer.asked().len()))
-        }
-    }
+    let sent = match line {
+        None => Vec::new(alloc),
+        Some((_, output)) => Vec::from_slice(alloc, output.written())?,
+    };
+    Ok((status, sent, told, dialer.asked().len()))
 }
 
 fn rows() -> [Row; 12] {
