@@ -1,5 +1,5 @@
 -- What options ask for, from what they tell.
-use Rattle.std.proofs.Common.{◌≡◌, ℕ, ◌+◌, zero, suc, Bool, true, false, List, [], ◌∷◌, ◌++◌, length, drop, Option, None, Some, Result, Ok, Err, refl, sym, ap, ◌∙◌, subst, arith, append_assoc, append-nil, length-append}
+use Rattle.std.proofs.Common.{◌≡◌, ℕ, ◌+◌, zero, suc, Bool, true, false, List, [], ◌∷◌, ◌++◌, length, drop, Option, None, Some, Result, Ok, Err, refl, sym, ap, ◌∙◌, subst, arith, append_assoc, append-nil, length-append, add-one}
 use Rattle.std.specs.Prelude.{codes, option_map, unwrap_or}
 use Rattle.std.specs.List.{flat_map}
 use Rattle.ppp_chat.specs.Words.{script_of}
@@ -13,9 +13,12 @@ use Rattle.chat.specs.declared.ending.Refusal.{Refusal}
 use Rattle.chat.specs.declared.ending.Refusal.TheVariants.{OtherWords}
 use Rattle.chat.specs.declared.plan.Plan.{Plan}
 
+second-at : (pre rest : List (List ℕ)) (first value : List ℕ) → word_at (pre ++ first ∷ value ∷ rest) (suc (length pre)) ≡ value
+second-at [] rest first value = refl
+second-at (word ∷ pre) rest first value = second-at pre rest first value
+
 second : (pre rest : List (List ℕ)) (first value : List ℕ) → word_at (pre ++ first ∷ value ∷ rest) (length pre + 1) ≡ value
-second [] rest first value = refl
-second (word ∷ pre) rest first value = second pre rest first value
+second pre rest first value = rw add-one (second-at pre rest first value)
 
 -- the value of an option stands at its place among the words
 record At (test : Said → Bool) (options : List Said) (pre rest : List (List ℕ)) (value : List ℕ) : Type 0 where

@@ -105,6 +105,14 @@ fn files(alloc: Global) -> Result<MemoryFiles, NoMemory> {
     Ok(MemoryFiles::new(list, Vec::from_slice(alloc, &[2u64])?))
 }
 
+// What was sent over a line.
+fn sent_over(alloc: Global, line: Option<(MemoryLine, MemorySink)>) -> Result<Vec<u8>, NoMemory> {
+    let Some((_input, output)) = line else {
+        return Ok(Vec::new(alloc));
+    };
+    Ok(Vec::from_slice(alloc, output.written())?)
+}
+
 // A run over a line in memory, or over none. The clock begins at 0.
 fn ran<R: Wait>(
     rt: &R,
@@ -131,11 +139,8 @@ fn ran<R: Wait>(
         &mut clock,
         &mut errors,
     );
+    let sent = sent_over(alloc, line)?;
     let told = Vec::from_slice(alloc, errors.written())?;
-    let sent = match line {
-        None => Vec::new(alloc),
-        Some((_, output)) => Vec::from_slice(alloc, output.written())?,
-    };
     Ok((status, sent, told, dialer.asked().len()))
 }
 
