@@ -1,0 +1,6 @@
+mod AskedLemmas
+mod HeardLemmas
+mod OptionLemmas
+mod RunLemmas
+mod TalkLemmas
+mod TellingLemmas
