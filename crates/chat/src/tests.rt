@@ -64,6 +64,15 @@ fn strings(alloc: Global, words: &[&str]) -> Result<Vec<String>, NoMemory> {
     Ok(strings)
 }
 
+// The words, behind those that say which line is dialled.
+fn with_line(alloc: Global, words: &[&'static str]) -> Result<Vec<&'static str>, NoMemory> {
+    let mut all = Vec::from_slice(alloc, &["-L", "h:1"])?;
+    for word in words {
+        all.push(*word)?;
+    }
+    Ok(all)
+}
+
 fn input(alloc: Global, peer: Peer) -> Result<MemoryLine, NoMemory>
     ensures { IfOk result (λ s. IsNewLine (state_of s)) }
 {
@@ -217,10 +226,7 @@ fn rows() -> [Row; 12] {
 #[test]
 fn a_line_is_dialled(rt: HostRuntime) -> Result<(), Fail> {
     for (words, peer, later, status, sent) in rows() {
-        let mut all = Vec::from_slice(rt.alloc(), &["-L", "h:1"])?;
-        for word in words {
-            all.push(*word)?;
-        }
+        let all = with_line(rt.alloc(), words)?;
         let came = ran(&rt, rt.alloc(), &all, Some(peer), later)?;
         assert_eq!(rt; came.0, status, "{words:?}");
         assert_eq!(rt; came.1.as_slice(), sent, "{words:?}");
