@@ -1,11 +1,13 @@
 -- Numbers at the front of a text.
-use Rattle.std.proofs.Common.{◌≡◌, ℕ, zero, suc, ◌<◌, ◌≤◌, ◌^◌, Bool, true, false, List, [], ◌∷◌, ◌++◌, length, take, drop, get_or, Option, Some, refl, sym, subst, ap, ◌∙◌, arith, rules, decimal}
+use Rattle.std.proofs.Common.{◌≡◌, ℕ, zero, suc, ◌<◌, ◌≤◌, ◌^◌, ◌+◌, ◌-◌, ◌*◌, Bool, true, false, List, [], ◌∷◌, ◌++◌, length, take, drop, get_or, cond, Option, None, Some, refl, sym, subst, ap, ◌∙◌, arith, rules, decimal}
 use Rattle.std.specs.Prelude.{◌&&◌, nat_le}
 use Rattle.std.proofs.lemmas.Bool.Decides.{nat_tests}
 use Rattle.std.specs.List.{list_all}
 use Rattle.std.proofs.lemmas.Str.Parse.{IsNumeralModel, numerals_by_fold}
-use Rattle.std.proofs.lemmas.Fmt.{digits_decimal}
+use Rattle.std.proofs.lemmas.Fmt.{decimal_digit, decimal_nonempty, digits_decimal, digits_value-decimal}
+use Rattle.std.proofs.lemmas.Option.{none-some}
 use Rattle.std.proofs.Math.Seq.{take-append_seam}
+use Rattle.std.proofs.lemmas.List.{get_or-take, length-take-le, take_more}
 use Rattle.ppp_base.specs.Numbers.{is_digit, may_be_number, number_of, value_behind}
 use Rattle.ppp_base.specs.declared.numbers.LeadingZeros.TheVariants.{Refused}
 use Rattle.ppp_base.proofs.Decimals.{decimal_back, decimal_alone, number_is_within}
@@ -84,3 +86,97 @@ is_spelled word value most digits form is low =
   where
     small : (n most : ℕ) → n ≤ most → nat_le n most ≡ true
     small n most h = grind (arith, nat_tests)
+
+-- one digit more
+value_more : (value digit : ℕ) (digits : List ℕ) → value_behind value (digits ++ digit ∷ []) ≡ value_behind value digits * 10 + (digit - 48)
+value_more value digit [] = refl
+value_more value digit (d ∷ digits) = value_more (value * 10 + (d - 48)) digit digits
+
+pub value_goes_on : (text : List ℕ) (i : ℕ) → i < length text → value_behind 0 (take i text) * 10 + (get_or text i 0 - 48) ≡ value_behind 0 (take (i + 1) text)
+value_goes_on text i within = sym (ap (λ ds. value_behind 0 ds) (take_more text i 0 within) ∙ value_more 0 (get_or text i 0) (take i text))
+
+-- the digits at the front are digits at each place
+pub front_digits : (text : List ℕ) (end : ℕ) → end ≤ length text → ((k : ℕ) → k < end → is_digit (get_or text k 0) ≡ true)
+    → (k : ℕ) → k < length (take end text) → is_digit (get_or (take end text) k 0) ≡ true
+front_digits text end within digits k low =
+    let below : k < end = subst (λ n. k < n) (length-take-le end text within) low in
+    rw (get_or-take end text k 0 below) (digits k below)
+
+-- the digits of a number are of the form, and spell it
+formed : (form : Bool) (read : Option ℕ) (n : ℕ) → cond form read None ≡ Some n → form ≡ true
+formed true read n e = refl
+formed false read n e = absurd (none-some n e)
+
+pub decimal_form : (n : ℕ) → n < 2 ^ 64 → may_be_number Refused (decimal n) ≡ true
+decimal_form n fits = formed (may_be_number Refused (decimal n)) _ n (decimal_back 0 n n (omega arith) (omega arith) fits)
+
+pub decimal_value : (n : ℕ) → n < 2 ^ 64 → value_behind 0 (decimal n) ≡ n
+decimal_value n fits = digits_value-decimal own n fits
+
+digit_range : (d : ℕ) → is_digit d ≡ true → (48 ≤ d) × (d ≤ 57)
+digit_range d is = grind (arith, nat_tests)
+
+-- What stands before an octet that is no digit, where that is the second.
+pub record Alone (text rest : List ℕ) (n : ℕ) : Type 0 where
+  pub digit : get_or text 0 0 ≡ 48 + n
+  pub small : n < 10
+  pub behind : drop 2 text ≡ rest
+
+first_alone : (ds text rest : List ℕ) (n : ℕ) → list_all is_digit ds ≡ true → 0 < length ds → value_behind 0 ds ≡ n → text ≡ ds ++ 32 ∷ rest → get_or text 1 0 ≡ 32
+    → Alone text rest n
+first_alone [] text rest n all some value is second = absurd (omega (arith, some))
+first_alone (d ∷ []) text rest n all some value is second =
+    let range = digit_range d (first-true (is_digit d) true all) in
+    record {
+      digit = ap (λ xs. get_or xs 0 0) is ∙ omega (arith, value, range.0);
+      small = omega (arith, value, range.1);
+      behind = ap (λ xs. drop 2 xs) is;
+    }
+first_alone (d ∷ e ∷ ds) text rest n all some value is second =
+    let digit = first-true (is_digit e) (list_all is_digit ds) (rest-true (is_digit d) (is_digit e && list_all is_digit ds) all) in
+    let here : e ≡ 32 = sym (ap (λ xs. get_or xs 1 0) is) ∙ second in
+    absurd (omega (arith, here, (digit_range e digit).0))
+
+pub one_alone : (text rest : List ℕ) (n : ℕ) → n < 2 ^ 64 → text ≡ decimal n ++ 32 ∷ rest → get_or text 1 0 ≡ 32 → Alone text rest n
+one_alone text rest n fits is second = first_alone (decimal n) text rest n (all_digits n fits) (decimal_nonempty n fits) (decimal_value n fits) is second
+
+pub is_alone : (n : ℕ) → n < 10 → decimal n ≡ (48 + n) ∷ []
+is_alone n small = decimal_digit n small
+
+pub begins_with : (text : List ℕ) → 2 ≤ length text → text ≡ get_or text 0 0 ∷ get_or text 1 0 ∷ drop 2 text
+begins_with [] long = absurd (omega (arith, long))
+begins_with (a ∷ []) long = absurd (omega (arith, long))
+begins_with (a ∷ b ∷ text) long = refl
+
+-- what so many digits spell is less than this
+abbrev pub tens : ℕ → ℕ
+tens zero = 1
+tens (suc i) = tens i * 10
+
+tens_more : (i : ℕ) → tens (i + 1) ≡ tens i * 10
+tens_more i = ap tens (next i)
+  where
+    next : (i : ℕ) → i + 1 ≡ suc i
+    next i = omega arith
+
+tens_low : (more i j : ℕ) → j ≡ more + i → tens i ≤ tens j
+tens_low zero i j is = subst (λ n. tens i ≤ tens n) (sym (same i j is)) (omega arith)
+  where
+    same : (i j : ℕ) → j ≡ 0 + i → j ≡ i
+    same i j is = omega (arith, is)
+tens_low (suc more) i zero is = absurd (omega (arith, is))
+tens_low (suc more) i (suc j) is = omega (arith, tens_low more i j (omega (arith, is)))
+
+pub one_more_fits : (value digit i : ℕ) → value < tens i → i < 19 → digit ≤ 9 → value * 10 + digit < 2 ^ 64
+one_more_fits value digit i low few small =
+    let most : tens i ≤ 1000000000000000000 = tens_low (18 - i) i 18 (omega (arith, few)) in
+    omega (arith, low, most, small)
+
+pub one_more_low : (value digit i : ℕ) → value < tens i → digit ≤ 9 → value * 10 + digit < tens (i + 1)
+one_more_low value digit i low small = omega (arith, low, small, tens_more i)
+
+-- the place of an octet among the first so many
+pub front_place : (text : List ℕ) (most i : ℕ) → most ≤ length text → i < length (take most text) → (i < most) × (get_or (take most text) i 0 ≡ get_or text i 0)
+front_place text most i within low =
+    let below : i < most = subst (λ n. i < n) (length-take-le most text within) low in
+    (below, get_or-take most text i 0 below)
