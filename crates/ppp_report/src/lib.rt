@@ -9,7 +9,7 @@ mod check;
 mod kinds;
 pub mod laws;
 mod mark_line;
-mod number;
+pub mod number;
 mod scripts;
 mod section;
 #[cfg(test)]

@@ -1,4 +1,6 @@
+pub mod FullLemmas
 pub mod NumberLemmas
 pub mod OnceLemmas
+pub mod SignalLemmas
 pub mod StepLemmas
 pub mod TraceLemmas

@@ -46,7 +46,7 @@ joins_lines (b ∷ bs) = elim (eqb_tells b 10) [
 ]
 
 -- what is found passes the test
-find_passes : {X : Type 0} (p : X → Bool) (xs : List X) (x : X) → find p xs ≡ Some x → p x ≡ true
+pub find_passes : {X : Type 0} (p : X → Bool) (xs : List X) (x : X) → find p xs ≡ Some x → p x ≡ true
 find_passes p [] x e = cc
 find_passes p (y ∷ ys) x e = elim (cases (p y)) [
   | inl h ↦ let same : Some y ≡ Some x = rw h at e in let is : y ≡ x = cc in rw (← is) h

@@ -4,3 +4,4 @@ pub mod BareTrace
 pub mod FirstFault
 pub mod Reads
 pub mod FaultLine
+pub mod FullSteps

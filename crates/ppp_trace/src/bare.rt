@@ -28,8 +28,8 @@ fn event(line: &[u8]) -> Option<FsmEvent>
     EVENTS.iter().copied().find(|e| word(*e) == line)
 }
 
-// How a script ended, as a step has it.
-fn answer(text: &[u8]) -> Option<ScriptEnd>
+/// How a script ended, as a step has it.
+pub fn answer(text: &[u8]) -> Option<ScriptEnd>
     ensures { MatchOption result ((a : ScriptEnd) → IsAnswer a → text.now ≢ word_of_answer a) (λ a. text.now ≡ word_of_answer a) }
 {
     if text == b"killed".as_slice() {

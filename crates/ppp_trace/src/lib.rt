@@ -1,22 +1,32 @@
-//! The reader of bare traces. A bare trace is the line `bare` and then a line for each step: the word of an event of the
+//! The reader of traces. A bare trace is the line `bare` and then a line for each step: the word of an event of the
 //! option negotiation automaton of RFC 1661, or how the running site script ended. `read_bare` answers the steps, or
 //! the first fault with its line, and `fault_text` is the line that tells it. `specs/BareTrace.antt` says what a trace
 //! is, by its spelling, and `specs/FirstFault.antt` what is wrong with octets that are none. `laws` has that a trace has
 //! one list of steps alone, octets have one first fault alone, and octets with a fault are no trace.
+//!
+//! Of full traces, which tell what happens to links, units and the table, `read_step` reads the line of a step
+//! (`specs/FullSteps.antt`).
 #![tactic(auto)]
 
 mod bare;
 mod fault;
+mod fields;
+mod full_step;
 pub mod laws;
+mod link_step;
+mod link_word;
 mod step;
 #[cfg(test)]
 mod tests;
 mod words;
+mod world_step;
 
 pub use bare::read_bare;
 pub use fault::{BadTrace, FaultKind, TraceFault, fault_text};
+pub use full_step::read_step;
 use ppp_fsm::FsmEvent;
 pub use step::BareStep;
+pub use world_step::{LineOctets, WorldStep};
 
 /// How many steps a bare trace has at most.
 pub const MOST_STEPS: usize = 100_000;

@@ -1,4 +1,6 @@
-use crate::{BadTrace, BareStep, FaultKind, TraceFault, fault_text, read_bare};
+use crate::{
+    BadTrace, BareStep, FaultKind, TraceFault, WorldStep, fault_text, read_bare, read_step,
+};
 use ppp_fsm::FsmEvent;
 use ppp_outside::ScriptEnd;
 use std::alloc::Global;
@@ -110,5 +112,100 @@ fn counts_steps(rt: HostRuntime) -> Result<(), Fail> {
         told(alloc, text.as_slice())?.as_slice(),
         b"bad trace: line 100002: step\n".as_slice()
     );
+    Ok(())
+}
+
+#[test]
+fn reads_the_steps_of_full_traces(rt: HostRuntime) -> Result<(), Fail> {
+    let rows = [
+        "1 begin",
+        "2 dial ok",
+        "1 dial fail",
+        "1 rx 7e",
+        "2 rx 4294967295 18446744073709551615 7Eff",
+        "1 line end",
+        "1 line fail",
+        "1 line left",
+        "2 sent ok",
+        "2 sent fail",
+        "1 tick 72057594037927936",
+        "tick 0",
+        "1 word HUP",
+        "1 word USR2",
+        "2 hook 1 exit 255",
+        "unit 15 hook 4294967295 killed",
+        "unit 0 hook 1 none",
+        "packet 0 45",
+        "carry 2",
+    ];
+    for row in rows {
+        assert!(rt; read_step(row.as_bytes(), 2).is_some(), "{row}");
+    }
+    Ok(())
+}
+
+#[test]
+fn refuses_lines_that_are_no_steps(rt: HostRuntime) -> Result<(), Fail> {
+    let rows = [
+        "",
+        "begin",
+        "0 begin",
+        "3 begin",
+        "01 begin",
+        "1  begin",
+        "1 begin ",
+        "1 rx ",
+        "1 rx 7",
+        "1 rx 1 7e",
+        "1 rx 4294967296 0 7e",
+        "1 tick 72057594037927937",
+        "1 word KILL",
+        "1 hook 1 exit 256",
+        "unit 16 hook 1 none",
+        "packet 0 ",
+        "carry 3",
+    ];
+    for row in rows {
+        assert!(rt; read_step(row.as_bytes(), 2).is_none(), "{row}");
+    }
+    Ok(())
+}
+
+// Whether a line of so many octets in hexadecimal digits behind these words is a step.
+fn takes(alloc: Global, words: &[u8], octets: usize) -> Result<bool, Fail> {
+    let mut line = Vec::from_slice(alloc, words)?;
+    for _octet in 0..octets {
+        line.extend_from_slice(b"5a")?;
+    }
+    Ok(read_step(line.as_slice(), 1).is_some())
+}
+
+#[test]
+fn takes_so_many_octets(rt: HostRuntime) -> Result<(), Fail> {
+    assert!(rt; takes(rt.alloc(), b"1 rx ", 1024)?);
+    assert!(rt; !takes(rt.alloc(), b"1 rx ", 1025)?);
+    assert!(rt; takes(rt.alloc(), b"packet 15 ", 2048)?);
+    assert!(rt; !takes(rt.alloc(), b"packet 15 ", 2049)?);
+    Ok(())
+}
+
+#[test]
+fn keeps_what_a_step_says(rt: HostRuntime) -> Result<(), Fail> {
+    let step = read_step(b"2 rx 3 7 0Aff", 2);
+    let Some(
+        WorldStep::RxAt {
+            link,
+            session,
+            offset,
+            octets,
+        },
+    ) = step
+    else {
+        return Err(Fail::from("not these octets"));
+    };
+    assert_eq!(rt; link.number(), 2);
+    assert_eq!(rt; session, 3);
+    assert_eq!(rt; offset, 7);
+    assert_eq!(rt; octets.as_slice(), [0x0a, 0xff].as_slice());
     Ok(())
 }
