@@ -12,11 +12,9 @@ ghost use Rattle.ppp_bundle.specs.MayStand.{AllMayStand, mrru_of};
 ghost use Rattle.ppp_bundle.specs.Replay.{Replay, bundles_in, openings_in};
 ghost use Rattle.ppp_bundle.specs.Sound.{IsGoing, IsSound};
 ghost use Rattle.ppp_bundle.specs.State.{is_open, members_of};
-ghost use Rattle.ppp_bundle.specs.UnitPart.{EventCounts, IsFresh, IsLinkNumber, IsPlainEvent, MayCome, UnitPart, after_event, after_step};
+ghost use Rattle.ppp_bundle.specs.UnitPart.{EventCounts, IsFresh, IsLinkNumber, IsPlainEvent, MayCome, UnitPart, after_event};
 
 use crate::event::BundleEvent;
-use crate::member::Member;
-use crate::outbox::{BundleEnd, GivenList, Sending, SentList, UnitCounts};
 use crate::unit_state::UnitCore;
 use ppp_base::{Datagram, HookTarget, LEAST_MRRU, Mrru, NoMemory, Stepped, Unit};
 use ppp_hooks::HookJob;
@@ -24,6 +22,7 @@ use ppp_mark::{Log, ScriptLog};
 use ppp_mp::{Gather, Given};
 use ppp_outside::Spawner;
 use ppp_secrets::SecretsPair;
+use ppp_unit_parts::{BundleEnd, GivenList, Member, Sending, SentList, UnitCounts};
 use std::alloc::Global;
 use std::marker::Model;
 
