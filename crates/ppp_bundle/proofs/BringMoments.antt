@@ -1,7 +1,7 @@
 -- A step of a plain bundle at which a link brings a frame.
 use Rattle.std.proofs.Common.{◌≡◌, inl, ℕ, Bool, true, false, Option, None, Some, is_some, List, [], ◌∷◌, ◌++◌, refl, ap, ap₂, sym, subst, ◌∙◌, arith}
 use Rattle.std.proofs.lemmas.Bool.Decides.{nat_tests}
-use Rattle.std.specs.Prelude.{◌==◌, ◌&&◌, ◌||◌, not, if◌then◌else◌, option_to_list}
+use Rattle.std.specs.Prelude.{◌==◌, ◌&&◌, ◌||◌, not, option_to_list, if◌then◌else◌}
 use Rattle.ppp_base.specs.declared.allow.Allow.{Allow}
 use Rattle.ppp_base.specs.Mrru.{MrruPair}
 use Rattle.ppp_base.specs.declared.posts.CloseCause.TheVariants.{Idle}
@@ -14,16 +14,18 @@ use Rattle.ppp_mp.specs.declared.members.MemberView.{MemberView}
 use Rattle.ppp_packet.specs.declared.packet.Packet.{Packet}
 use Rattle.ppp_packet.specs.PacketOf.{packet_in}
 use Rattle.ppp_secrets.specs.declared.secrets.SecretsPair.{SecretsPair}
-use Rattle.ppp_bundle.specs.declared.live.IpCall.TheVariants.{Hears}
-use Rattle.ppp_bundle.specs.declared.live.Live.{Live}
-use Rattle.ppp_bundle.specs.declared.member.Member.{Member}
-use Rattle.ppp_bundle.specs.declared.outbox.UnitCounts.{UnitCounts}
+use Rattle.ppp_unit_parts.specs.declared.live.IpCall.TheVariants.{Hears}
+use Rattle.ppp_unit_parts.specs.declared.live.Live.{Live}
+use Rattle.ppp_unit_parts.specs.declared.member.Member.{Member}
+use Rattle.ppp_unit_parts.specs.declared.outbox.UnitCounts.{UnitCounts}
 use Rattle.ppp_bundle.specs.Frames.{brought, gave, heard, not_open, stranger, used_all, with_pass}
 use Rattle.ppp_bundle.specs.History.{Moment, Brings, Calls, Drop, Terms, NotOpen, Stranger, asked_in, calls_in, counted, drops_by, entered_in, given_by, is_member_in, is_up_in, most_in, mru_in, passed_in, time_in, to_hear}
-use Rattle.ppp_bundle.specs.IpCalls.{around_of, called}
+use Rattle.ppp_bundle.specs.IpCalls.{called}
+use Rattle.ppp_unit_parts.specs.Calls.{around_of}
 use Rattle.ppp_bundle.specs.Lives.{CutsAll, GathersAll, HasMember, Reached, mru_of}
-use Rattle.ppp_bundle.specs.Member.{has_link, is_link, views_of}
-use Rattle.ppp_bundle.specs.State.{UnitState, is_up}
+use Rattle.ppp_unit_parts.specs.Member.{has_link, is_link, views_of}
+use Rattle.ppp_bundle.specs.State.{UnitState}
+use Rattle.ppp_unit_parts.specs.Live.{is_up}
 use Rattle.ppp_bundle.specs.UnitPart.{framed}
 use Rattle.ppp_bundle.proofs.CallMoments.{call_made, up_is}
 use Rattle.ppp_bundle.proofs.EventMoments.{call_on, calm_on, either_of}

@@ -6,15 +6,16 @@ use Rattle.ppp_base.specs.Mrru.{MrruPair}
 use Rattle.ppp_mp.specs.Schedule.{SendingNow}
 use Rattle.ppp_packet.specs.declared.packet.Packet.{Packet}
 use Rattle.ppp_packet.specs.PacketOf.{laid_packet}
-use Rattle.ppp_bundle.specs.declared.live.Live.{Live}
-use Rattle.ppp_bundle.specs.declared.member.Member.{Member}
-use Rattle.ppp_bundle.specs.declared.outbox.Sending.{Sending}
-use Rattle.ppp_bundle.specs.Fits.{Fits}
+use Rattle.ppp_unit_parts.specs.declared.live.Live.{Live}
+use Rattle.ppp_unit_parts.specs.declared.member.Member.{Member}
+use Rattle.ppp_unit_parts.specs.declared.outbox.Sending.{Sending}
+use Rattle.ppp_unit_parts.specs.Fits.{Fits}
 use Rattle.ppp_bundle.specs.IpCalls.{sends_all}
-use Rattle.ppp_bundle.specs.Member.{AreInOrder}
-use Rattle.ppp_bundle.specs.Sends.{all_sent, left_by_all, left_by_sending, sent_as, whole_on}
+use Rattle.ppp_unit_parts.specs.Member.{AreInOrder}
+use Rattle.ppp_unit_parts.specs.Pieces.{all_sent, left_by_all, left_by_sending, sent_as, whole_on}
 use Rattle.ppp_bundle.specs.Sound.{Agrees, IsTurning}
-use Rattle.ppp_bundle.specs.State.{UnitState, most_of, most_to_peer, mru_of_first}
+use Rattle.ppp_bundle.specs.State.{UnitState}
+use Rattle.ppp_unit_parts.specs.Live.{most_of, most_to_peer, mru_of_first}
 
 pub all_sent_is : {S : Type 0} (packets : List Packet) (u : UnitState S) (l : Live) (sent : List Sending)
     → sends_all packets (record u { live = Some l; sent = sent }) ≡ record u { live = Some (left_by_all l packets); sent = all_sent l packets sent }

@@ -1,6 +1,6 @@
 -- What a call of IPCP adds to what has happened to a plain bundle.
 use Rattle.std.proofs.Common.{◌≡◌, ℕ, Bool, true, false, Option, None, Some, List, [], ◌∷◌, ◌++◌, refl, ap, sym, ◌∙◌, append_assoc, append-nil}
-use Rattle.std.specs.Prelude.{◌==◌, ◌&&◌, ◌||◌, not, if◌then◌else◌, option_to_list}
+use Rattle.std.specs.Prelude.{◌==◌, ◌&&◌, ◌||◌, not, option_to_list, if◌then◌else◌}
 use Rattle.ppp_base.specs.Mrru.{MrruPair}
 use Rattle.ppp_base.specs.declared.protocol.TheConstants.{IPCP}
 use Rattle.ppp_control.specs.declared.negotiation.StepOut.{StepOut}
@@ -17,20 +17,22 @@ use Rattle.ppp_outside.specs.declared.hook_words.HookArgs.{HookArgs}
 use Rattle.ppp_packet.specs.declared.packet.Packet.{Packet}
 use Rattle.ppp_packet.specs.PacketOf.{laid_packet}
 use Rattle.ppp_secrets.specs.declared.secrets.SecretsPair.{SecretsPair}
-use Rattle.ppp_bundle.specs.declared.live.IpCall.{IpCall}
-use Rattle.ppp_bundle.specs.declared.live.Live.{Live}
-use Rattle.ppp_bundle.specs.declared.member.Member.{Member}
-use Rattle.ppp_bundle.specs.declared.outbox.Sending.{Sending}
-use Rattle.ppp_bundle.specs.declared.wish.UnitWish.{UnitWish}
+use Rattle.ppp_unit_parts.specs.declared.live.IpCall.{IpCall}
+use Rattle.ppp_unit_parts.specs.declared.live.Live.{Live}
+use Rattle.ppp_unit_parts.specs.declared.member.Member.{Member}
+use Rattle.ppp_unit_parts.specs.declared.outbox.Sending.{Sending}
+use Rattle.ppp_unit_parts.specs.declared.wish.UnitWish.{UnitWish}
 use Rattle.ppp_bundle.specs.History.{Moment, Calls, Terms, asked_in, by_peer_after, calls_in, entered_in, is_up_after, is_up_in, packets_of, was_up_after, whole_by}
-use Rattle.ppp_bundle.specs.IpCalls.{args_of, around_of, call_of, finished, followed, has_finished, ip_left, is_rtr, live_left, live_tells, or_none, turned}
+use Rattle.ppp_bundle.specs.IpCalls.{finished, followed, turned}
+use Rattle.ppp_unit_parts.specs.Calls.{args_of, around_of, call_of, has_finished, ip_left, is_rtr, live_left, live_tells, or_none}
 use Rattle.ppp_bundle.specs.Lives.{CutsAll, GathersAll, HasMember, Reached}
-use Rattle.ppp_bundle.specs.Member.{views_of}
+use Rattle.ppp_unit_parts.specs.Member.{views_of}
 use Rattle.ppp_bundle.specs.ScriptParts.{opened, shut}
-use Rattle.ppp_bundle.specs.Sends.{all_sent, left_by_all, left_by_sending, sending, sent_as, whole_on}
-use Rattle.ppp_bundle.specs.State.{UnitState, is_up}
+use Rattle.ppp_unit_parts.specs.Pieces.{all_sent, left_by_all, left_by_sending, sending, sent_as, whole_on}
+use Rattle.ppp_bundle.specs.State.{UnitState}
+use Rattle.ppp_unit_parts.specs.Live.{is_up}
 use Rattle.ppp_bundle.proofs.CallFacts.{all_left, all_sent_is, plain_left, whole_all}
-use Rattle.ppp_bundle.proofs.SessionFacts.{exact}
+use Rattle.ppp_unit_parts.proofs.SessionFacts.{exact}
 
 -- two tests
 or_of : (a b : Bool) → a ≡ true → (a || b) ≡ true

@@ -13,10 +13,10 @@ use Rattle.ppp_mark.specs.Marks.{close_mark, ip_closed_mark, out_mark, started_m
 use Rattle.ppp_mark.specs.ScriptLog.{ScriptLogState, log_closed_at}
 use Rattle.ppp_mark.specs.Scripts.{marks_at, said_in}
 use Rattle.ppp_mp.specs.StandsFor.{GatherNow}
-use Rattle.ppp_bundle.specs.declared.live.Live.{Live}
-use Rattle.ppp_bundle.specs.declared.member.Member.{Member}
-use Rattle.ppp_bundle.specs.declared.outbox.BundleEnd.{BundleEnd}
-use Rattle.ppp_bundle.specs.declared.outbox.Ending.{Ending}
+use Rattle.ppp_unit_parts.specs.declared.live.Live.{Live}
+use Rattle.ppp_unit_parts.specs.declared.member.Member.{Member}
+use Rattle.ppp_unit_parts.specs.declared.outbox.BundleEnd.{BundleEnd}
+use Rattle.ppp_unit_parts.specs.declared.outbox.Ending.{Ending}
 use Rattle.ppp_bundle.specs.Closing.{closed, closed_of, end_of, outs, unmade}
 use Rattle.ppp_bundle.specs.History.{Moment, Terms, HasReason, asked_in}
 use Rattle.ppp_bundle.specs.Lives.{Ends, GathersAll, GathersThenDrops, Reached, is_made_or_close}

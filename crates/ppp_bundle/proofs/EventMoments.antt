@@ -9,18 +9,20 @@ use Rattle.ppp_control.specs.Rules.{Call}
 use Rattle.ppp_ipcp.specs.Around.{Around}
 use Rattle.ppp_ipcp.specs.Session.{session_after}
 use Rattle.ppp_secrets.specs.declared.secrets.SecretsPair.{SecretsPair}
-use Rattle.ppp_bundle.specs.declared.live.IpCall.{IpCall}
-use Rattle.ppp_bundle.specs.declared.live.Live.{Live}
-use Rattle.ppp_bundle.specs.declared.outbox.BundleEnd.{BundleEnd}
-use Rattle.ppp_bundle.specs.declared.outbox.Ending.{Ending}
-use Rattle.ppp_bundle.specs.declared.outbox.UnitCounts.{UnitCounts}
-use Rattle.ppp_bundle.specs.declared.wish.UnitWish.{UnitWish}
-use Rattle.ppp_bundle.specs.Closing.{closed, closed_if, closed_of, connect_end, crowded_end, ending, idle_end, looked, most_elapsed}
+use Rattle.ppp_unit_parts.specs.declared.live.IpCall.{IpCall}
+use Rattle.ppp_unit_parts.specs.declared.live.Live.{Live}
+use Rattle.ppp_unit_parts.specs.declared.outbox.BundleEnd.{BundleEnd}
+use Rattle.ppp_unit_parts.specs.declared.outbox.Ending.{Ending}
+use Rattle.ppp_unit_parts.specs.declared.outbox.UnitCounts.{UnitCounts}
+use Rattle.ppp_unit_parts.specs.declared.wish.UnitWish.{UnitWish}
+use Rattle.ppp_bundle.specs.Closing.{closed, closed_if, closed_of, connect_end, crowded_end, idle_end, looked}
+use Rattle.ppp_unit_parts.specs.Live.{ending, most_elapsed, is_up}
 use Rattle.ppp_bundle.specs.History.{Moment, Calls, Terms, HasReason, by_peer_after, calls_in, entered_in, has_finished_after, is_up_in, opened_in, passed_in}
-use Rattle.ppp_bundle.specs.IpCalls.{around_of, call_of, called, has_finished, ip_left, live_tells}
+use Rattle.ppp_bundle.specs.IpCalls.{called}
+use Rattle.ppp_unit_parts.specs.Calls.{around_of, call_of, has_finished, ip_left, live_tells}
 use Rattle.ppp_bundle.specs.Lives.{Lives, LivesOrEnds, Reached}
 use Rattle.ppp_bundle.specs.Replay.{since_made}
-use Rattle.ppp_bundle.specs.State.{UnitState, is_up}
+use Rattle.ppp_bundle.specs.State.{UnitState}
 use Rattle.ppp_bundle.proofs.CallMoments.{call_made, up_is}
 use Rattle.ppp_bundle.proofs.CloseMoments.{Over, closed_over}
 use Rattle.ppp_bundle.proofs.MidMoments.{Calm, Flows, Keeps, Mid, call_calm, call_flows, call_mid, is_past, keeps_closed, limit_end, limit_reason, not_past}

@@ -10,17 +10,18 @@ use Rattle.ppp_mp.specs.declared.members.MemberView.{MemberView}
 use Rattle.ppp_secrets.specs.declared.secrets.SecretsPair.{SecretsPair}
 use Rattle.ppp_bundle.specs.declared.event.BundleEvent.{BundleEvent}
 use Rattle.ppp_bundle.specs.declared.event.BundleEvent.TheVariants.{Make, In, Out, Frame, Datagram, Tick, HookOver}
-use Rattle.ppp_bundle.specs.declared.live.Live.{Live}
-use Rattle.ppp_bundle.specs.declared.member.Member.{Member}
-use Rattle.ppp_bundle.specs.declared.outbox.BundleEnd.{BundleEnd}
-use Rattle.ppp_bundle.specs.declared.outbox.Ending.{Ending}
+use Rattle.ppp_unit_parts.specs.declared.live.Live.{Live}
+use Rattle.ppp_unit_parts.specs.declared.member.Member.{Member}
+use Rattle.ppp_unit_parts.specs.declared.outbox.BundleEnd.{BundleEnd}
+use Rattle.ppp_unit_parts.specs.declared.outbox.Ending.{Ending}
 use Rattle.ppp_bundle.specs.Closing.{closed_if, closed_of, crowded_end, looked}
 use Rattle.ppp_bundle.specs.History.{Moment, Terms, entered_in, whole_in}
 use Rattle.ppp_bundle.specs.Lives.{CutsAll, GathersAll, GoesOn, HasBegun, HasHistory, HasMember, Lives, LivesOrEnds, SendsSince, own_of, terms_of}
-use Rattle.ppp_bundle.specs.Member.{stay_of, views_of}
+use Rattle.ppp_unit_parts.specs.Member.{stay_of, views_of}
 use Rattle.ppp_bundle.specs.Replay.{since_made}
 use Rattle.ppp_bundle.specs.State.{UnitState, members_of}
-use Rattle.ppp_bundle.specs.UnitPart.{IsPlainEvent, MayCome, MayEnter, after_event, after_step, new_live}
+use Rattle.ppp_bundle.specs.UnitPart.{IsPlainEvent, MayCome, MayEnter, after_event, after_step}
+use Rattle.ppp_unit_parts.specs.Live.{new_live}
 use Rattle.ppp_bundle.proofs.BringMoments.{does_frame}
 use Rattle.ppp_bundle.proofs.EventMoments.{begins_calm, begins_mid, flows_keep, keeps_if, step_ends}
 use Rattle.ppp_bundle.proofs.LeaveMoments.{does_leave}

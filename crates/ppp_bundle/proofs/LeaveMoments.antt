@@ -1,16 +1,16 @@
 -- A step of a plain bundle at which its one member goes out.
 use Rattle.std.proofs.Common.{◌≡◌, inr, ℕ, Bool, true, false, Option, None, Some, is_some, List, [], ◌∷◌, refl, ap, sym, subst, ◌∙◌, arith}
 use Rattle.std.proofs.lemmas.Bool.Decides.{nat_tests}
-use Rattle.std.specs.Prelude.{◌==◌, if◌then◌else◌, option_to_list}
+use Rattle.std.specs.Prelude.{◌==◌, option_to_list, if◌then◌else◌}
 use Rattle.ppp_mp.specs.declared.members.MemberView.{MemberView}
 use Rattle.ppp_secrets.specs.declared.secrets.SecretsPair.{SecretsPair}
-use Rattle.ppp_bundle.specs.declared.live.Live.{Live}
-use Rattle.ppp_bundle.specs.declared.member.Member.{Member}
-use Rattle.ppp_bundle.specs.declared.outbox.BundleEnd.{BundleEnd}
+use Rattle.ppp_unit_parts.specs.declared.live.Live.{Live}
+use Rattle.ppp_unit_parts.specs.declared.member.Member.{Member}
+use Rattle.ppp_unit_parts.specs.declared.outbox.BundleEnd.{BundleEnd}
 use Rattle.ppp_bundle.specs.Closing.{unmade}
 use Rattle.ppp_bundle.specs.History.{Moment, Goes, Terms, entered_in, is_up_in, is_member_in}
 use Rattle.ppp_bundle.specs.Lives.{LivesOrEnds, mru_of}
-use Rattle.ppp_bundle.specs.Member.{stay_of, views_of, without}
+use Rattle.ppp_unit_parts.specs.Member.{stay_of, views_of, without}
 use Rattle.ppp_bundle.specs.State.{UnitState}
 use Rattle.ppp_bundle.specs.UnitPart.{left_by, left_of}
 use Rattle.ppp_bundle.proofs.MidMoments.{Mid, has_plain}

@@ -1,10 +1,6 @@
-pub mod SessionFacts
 pub mod EndFacts
 pub mod SoundFacts
 pub mod PlainFacts
-pub mod MemberFacts
-pub mod OutboxFacts
-pub mod SendFacts
 pub mod CallFacts
 pub mod MemberSteps
 pub mod ReadyFacts

@@ -5,19 +5,19 @@ use Rattle.std.specs.Prelude.{◌==◌, IfSome, not, if◌then◌else◌}
 use Rattle.ppp_base.specs.Mrru.{MrruPair}
 use Rattle.ppp_mark.specs.Marks.{in_mark, out_mark}
 use Rattle.ppp_secrets.specs.declared.secrets.SecretsPair.{SecretsPair}
-use Rattle.ppp_bundle.specs.declared.live.IpCall.TheVariants.{ComesUp, Opens}
-use Rattle.ppp_bundle.specs.declared.live.Live.{Live}
-use Rattle.ppp_bundle.specs.declared.member.Member.{Member}
+use Rattle.ppp_unit_parts.specs.declared.live.IpCall.TheVariants.{ComesUp, Opens}
+use Rattle.ppp_unit_parts.specs.declared.live.Live.{Live}
+use Rattle.ppp_unit_parts.specs.declared.member.Member.{Member}
 use Rattle.ppp_bundle.specs.Closing.{unmade}
-use Rattle.ppp_bundle.specs.Fits.{Fits, HasSoMany}
+use Rattle.ppp_unit_parts.specs.Fits.{Fits, HasSoMany}
 use Rattle.ppp_bundle.specs.Frames.{used_all}
 use Rattle.ppp_bundle.specs.IpCalls.{called}
-use Rattle.ppp_bundle.specs.Member.{AreInOrder, member, with_member, without}
+use Rattle.ppp_unit_parts.specs.Member.{AreInOrder, member, with_member, without}
 use Rattle.ppp_bundle.specs.ScriptParts.{marked}
 use Rattle.ppp_bundle.specs.Sound.{Agrees}
 use Rattle.ppp_bundle.specs.State.{UnitState, members_of}
 use Rattle.ppp_bundle.specs.UnitPart.{MayEnter, begun, entered, entered_of, left_by, left_of}
-use Rattle.ppp_bundle.proofs.MemberFacts.{count_all, few_without, order_with, order_without, stay_with, stay_without}
+use Rattle.ppp_unit_parts.proofs.MemberFacts.{count_all, few_without, order_with, order_without, stay_with, stay_without}
 
 no_length : (n : ℕ) → (suc n == 0) ≡ false
 no_length n = grind (arith, nat_tests)

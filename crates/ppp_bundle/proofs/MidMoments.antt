@@ -1,7 +1,7 @@
 -- A plain bundle in the midst of a step: what has happened to it so far, and what its IPCP is still asked.
 use Rattle.std.proofs.Common.{◌≡◌, ◌⊎◌, inl, inr, ℕ, zero, suc, ◌*◌, ◌-◌, ◌<◌, ◌≤◌, Bool, true, false, Option, None, Some, List, [], ◌∷◌, ◌++◌, refl, ap, sym, subst, ◌∙◌, append_assoc, append-nil, arith}
 use Rattle.std.proofs.lemmas.Bool.Decides.{nat_tests}
-use Rattle.std.specs.Prelude.{◌==◌, ◌&&◌, min, nat_le, not, if◌then◌else◌, option_to_list}
+use Rattle.std.specs.Prelude.{◌==◌, ◌&&◌, min, nat_le, not, option_to_list, if◌then◌else◌}
 use Rattle.ppp_base.specs.Mrru.{MrruPair}
 use Rattle.ppp_base.specs.declared.hook_target.HookTarget.TheVariants.{Unit as OfUnit}
 use Rattle.ppp_base.specs.declared.posts.CloseCause.{CloseCause}
@@ -11,18 +11,20 @@ use Rattle.ppp_control.specs.declared.negotiation.StepOut.{StepOut}
 use Rattle.ppp_ipcp.specs.Around.{Around}
 use Rattle.ppp_ipcp.specs.Session.{IpcpCall, session_after}
 use Rattle.ppp_secrets.specs.declared.secrets.SecretsPair.{SecretsPair}
-use Rattle.ppp_bundle.specs.declared.live.IpCall.{IpCall}
-use Rattle.ppp_bundle.specs.declared.live.Live.{Live}
-use Rattle.ppp_bundle.specs.declared.member.Member.{Member}
-use Rattle.ppp_bundle.specs.declared.outbox.Ending.{Ending}
-use Rattle.ppp_bundle.specs.declared.outbox.Sending.{Sending}
-use Rattle.ppp_bundle.specs.declared.outbox.UnitCounts.{UnitCounts}
-use Rattle.ppp_bundle.specs.Closing.{closed_of, connect_end, ending, idle_end, most_elapsed}
+use Rattle.ppp_unit_parts.specs.declared.live.IpCall.{IpCall}
+use Rattle.ppp_unit_parts.specs.declared.live.Live.{Live}
+use Rattle.ppp_unit_parts.specs.declared.member.Member.{Member}
+use Rattle.ppp_unit_parts.specs.declared.outbox.Ending.{Ending}
+use Rattle.ppp_unit_parts.specs.declared.outbox.Sending.{Sending}
+use Rattle.ppp_unit_parts.specs.declared.outbox.UnitCounts.{UnitCounts}
+use Rattle.ppp_bundle.specs.Closing.{closed_of, connect_end, idle_end}
+use Rattle.ppp_unit_parts.specs.Live.{ending, most_elapsed, is_up}
 use Rattle.ppp_bundle.specs.History.{Moment, Calls, Terms, IsOver, asked_in, by_peer_after, calls_in, counts_in, entered_in, given_in, has_finished_after, is_up_in, packets_of, time_in, whole_by, whole_in}
-use Rattle.ppp_bundle.specs.IpCalls.{around_of, call_of, called, finish_of, finished, has_finished, ip_left, live_left, live_tells}
+use Rattle.ppp_bundle.specs.IpCalls.{called, finish_of, finished}
+use Rattle.ppp_unit_parts.specs.Calls.{around_of, call_of, has_finished, ip_left, live_left, live_tells}
 use Rattle.ppp_bundle.specs.Lives.{HasMember, Reached}
-use Rattle.ppp_bundle.specs.Member.{views_of}
-use Rattle.ppp_bundle.specs.State.{UnitState, is_up}
+use Rattle.ppp_unit_parts.specs.Member.{views_of}
+use Rattle.ppp_bundle.specs.State.{UnitState}
 use Rattle.ppp_bundle.proofs.CallFacts.{plain_sent}
 use Rattle.ppp_bundle.proofs.CallMoments.{args_then, at_turn, call_made, followed_is, reached_call, sent_all_is, target_turned, turned_unit}
 use Rattle.ppp_bundle.proofs.CloseMoments.{Over, closed_over}

@@ -1,22 +1,24 @@
 -- A step of a plain bundle at which a datagram is to go to the peer, or a link brings a frame.
 use Rattle.std.proofs.Common.{◌≡◌, inl, ℕ, Bool, true, false, Option, None, Some, List, [], ◌∷◌, ◌++◌, length, refl, ap, sym, subst, ◌∙◌}
-use Rattle.std.specs.Prelude.{◌==◌, ◌&&◌, nat_le, if◌then◌else◌, option_to_list}
+use Rattle.std.specs.Prelude.{◌==◌, ◌&&◌, nat_le, option_to_list, if◌then◌else◌}
 use Rattle.ppp_base.specs.Mrru.{MrruPair}
 use Rattle.ppp_base.specs.declared.posts.CloseCause.TheVariants.{Idle}
 use Rattle.ppp_base.specs.declared.protocol.TheConstants.{IP}
 use Rattle.ppp_mp.specs.StandsFor.{GatherNow}
 use Rattle.ppp_mp.specs.Schedule.{SendingNow}
 use Rattle.ppp_mp.specs.declared.members.MemberView.{MemberView}
-use Rattle.ppp_bundle.specs.declared.live.Live.{Live}
-use Rattle.ppp_bundle.specs.declared.member.Member.{Member}
-use Rattle.ppp_bundle.specs.declared.outbox.Sending.{Sending}
-use Rattle.ppp_bundle.specs.declared.outbox.UnitCounts.{UnitCounts}
+use Rattle.ppp_unit_parts.specs.declared.live.Live.{Live}
+use Rattle.ppp_unit_parts.specs.declared.member.Member.{Member}
+use Rattle.ppp_unit_parts.specs.declared.outbox.Sending.{Sending}
+use Rattle.ppp_unit_parts.specs.declared.outbox.UnitCounts.{UnitCounts}
 use Rattle.ppp_bundle.specs.Frames.{Inner, carried, inner, not_open, too_big, with_pass}
 use Rattle.ppp_bundle.specs.History.{Moment, Carries, Drop, Terms, NotOpen, TooBig, asked_in, calls_in, counted, entered_in, is_up_in, most_by, most_in, passed_in, time_in, whole_by}
 use Rattle.ppp_bundle.specs.Lives.{CutsAll, GathersAll, HasMember, Reached}
-use Rattle.ppp_bundle.specs.Member.{views_of}
-use Rattle.ppp_bundle.specs.Sends.{sending, sends, whole_on}
-use Rattle.ppp_bundle.specs.State.{UnitState, is_up, most_of, most_to_peer}
+use Rattle.ppp_unit_parts.specs.Member.{views_of}
+use Rattle.ppp_bundle.specs.Sends.{sends}
+use Rattle.ppp_unit_parts.specs.Pieces.{sending, whole_on}
+use Rattle.ppp_bundle.specs.State.{UnitState}
+use Rattle.ppp_unit_parts.specs.Live.{is_up, most_of, most_to_peer}
 use Rattle.ppp_bundle.proofs.CallMoments.{head_link, one_sent, up_is}
 use Rattle.ppp_bundle.proofs.MidMoments.{Calm, Mid, fresh_calm, has_plain}
 use Rattle.ppp_bundle.proofs.StepMoments.{Does, flows_first, nothing_of, nothing_whole}

@@ -6,10 +6,10 @@ use Rattle.ppp_mp.specs.StandsFor.{GatherNow}
 use Rattle.ppp_secrets.specs.declared.secrets.SecretsPair.{SecretsPair}
 use Rattle.ppp_bundle.specs.declared.event.BundleEvent.{BundleEvent}
 use Rattle.ppp_bundle.specs.declared.event.BundleEvent.TheVariants.{Make, In, Out, Frame, Datagram, Tick, HookOver}
-use Rattle.ppp_bundle.specs.declared.live.Live.{Live}
-use Rattle.ppp_bundle.specs.declared.member.Member.{Member}
+use Rattle.ppp_unit_parts.specs.declared.live.Live.{Live}
+use Rattle.ppp_unit_parts.specs.declared.member.Member.{Member}
 use Rattle.ppp_bundle.specs.Gathers.{GatherCall, Gathered, Gathers, Same, nothing_asked}
-use Rattle.ppp_bundle.specs.Member.{is_link, stay_of, without}
+use Rattle.ppp_unit_parts.specs.Member.{is_link, stay_of, without}
 use Rattle.ppp_bundle.specs.State.{UnitState}
 use Rattle.ppp_bundle.specs.UnitPart.{IsPlainEvent, UnitPart, after_step, asked_of, asked_to_begin, asked_to_join, asked_to_leave, asked_to_take, begins_with, if_multilink}
 

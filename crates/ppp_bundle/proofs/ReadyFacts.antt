@@ -6,13 +6,14 @@ use Rattle.ppp_base.specs.Mrru.{MrruPair}
 use Rattle.ppp_mark.specs.Log.{room_of}
 use Rattle.ppp_mark.specs.ScriptLog.{ScriptLogState}
 use Rattle.ppp_secrets.specs.declared.secrets.SecretsPair.{SecretsPair}
-use Rattle.ppp_bundle.specs.declared.live.Live.{Live}
+use Rattle.ppp_unit_parts.specs.declared.live.Live.{Live}
 use Rattle.ppp_bundle.specs.Closing.{looked}
-use Rattle.ppp_bundle.specs.Frames.{Inner, bad_inner, inner, inner_of, most_of_ours, not_open, used, used_all, used_inner, used_of}
+use Rattle.ppp_bundle.specs.Frames.{Inner, bad_inner, inner, inner_of, not_open, used, used_all, used_inner, used_of}
+use Rattle.ppp_unit_parts.specs.Live.{most_of_ours}
 use Rattle.ppp_bundle.specs.Replay.{since_made}
 use Rattle.ppp_bundle.specs.Sound.{Agrees, Goes, IsGoing, IsReady, IsSound, Moves, owed}
 use Rattle.ppp_bundle.specs.State.{UnitState}
-use Rattle.ppp_bundle.proofs.SendFacts.{drop_get}
+use Rattle.ppp_unit_parts.proofs.SendFacts.{drop_get}
 use Rattle.ppp_bundle.proofs.SoundFacts.{at_some, by_none, if_some, owed_most}
 
 -- ROOM

@@ -9,8 +9,8 @@ use Rattle.ppp_hooks.specs.HookFacts.{settled, with_end, with_start, start_due}
 use Rattle.ppp_hooks.specs.HookState.{DoneState}
 use Rattle.ppp_mark.specs.Log.{room_of}
 use Rattle.ppp_mark.specs.ScriptLog.{ScriptLogState}
-use Rattle.ppp_bundle.specs.declared.live.Live.{Live}
-use Rattle.ppp_bundle.specs.declared.outbox.Ending.{Ending}
+use Rattle.ppp_unit_parts.specs.declared.live.Live.{Live}
+use Rattle.ppp_unit_parts.specs.declared.outbox.Ending.{Ending}
 use Rattle.ppp_bundle.specs.Closing.{closed_if, crowded_end, looked}
 use Rattle.ppp_bundle.specs.Replay.{since_made}
 use Rattle.ppp_bundle.specs.Sound.{Adds, Agrees, Goes, IsGoing, IsSound, owed, owed_by}

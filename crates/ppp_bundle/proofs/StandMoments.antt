@@ -1,7 +1,7 @@
 -- Each piece of a step leaves the marks of its unit where they may stand.
 use Rattle.std.proofs.Common.{◌≡◌, ℕ, ◌+◌, ◌<◌, ◌≤◌, Bool, true, false, Option, None, Some, List, [], ◌∷◌, ◌++◌, length, refl, ap, sym, subst, ◌∙◌, arith}
 use Rattle.std.proofs.lemmas.Bool.Decides.{nat_tests}
-use Rattle.std.specs.Prelude.{◌==◌, ◌||◌, if◌then◌else◌, nat_le, nat_lt, IfSome}
+use Rattle.std.specs.Prelude.{◌==◌, ◌||◌, nat_le, nat_lt, IfSome, if◌then◌else◌}
 use Rattle.ppp_base.specs.declared.hook_target.HookTarget.TheVariants.{Unit as OfUnit}
 use Rattle.ppp_base.specs.declared.protocol.TheConstants.{IP, IPCP, LCP}
 use Rattle.ppp_base.specs.Mrru.{MrruPair}
@@ -16,21 +16,24 @@ use Rattle.ppp_outside.specs.declared.hook_words.HookArgs.{HookArgs}
 use Rattle.ppp_secrets.specs.declared.secrets.SecretsPair.{SecretsPair}
 use Rattle.ppp_packet.specs.declared.packet.Packet.{Packet}
 use Rattle.ppp_packet.specs.PacketOf.{packet_in}
-use Rattle.ppp_bundle.specs.declared.live.IpCall.{IpCall}
-use Rattle.ppp_bundle.specs.declared.live.IpCall.TheVariants.{Hears}
-use Rattle.ppp_bundle.specs.declared.live.Live.{Live}
-use Rattle.ppp_bundle.specs.declared.member.Member.{Member}
-use Rattle.ppp_bundle.specs.declared.outbox.Ending.{Ending}
-use Rattle.ppp_bundle.specs.declared.outbox.UnitCounts.{UnitCounts}
+use Rattle.ppp_unit_parts.specs.declared.live.IpCall.{IpCall}
+use Rattle.ppp_unit_parts.specs.declared.live.IpCall.TheVariants.{Hears}
+use Rattle.ppp_unit_parts.specs.declared.live.Live.{Live}
+use Rattle.ppp_unit_parts.specs.declared.member.Member.{Member}
+use Rattle.ppp_unit_parts.specs.declared.outbox.Ending.{Ending}
+use Rattle.ppp_unit_parts.specs.declared.outbox.UnitCounts.{UnitCounts}
 use Rattle.ppp_bundle.specs.Closing.{closed_if, closed_of, crowded_end, looked, outs, unmade}
-use Rattle.ppp_bundle.specs.IpCalls.{called, finish_of, finished, has_finished, live_left, live_tells}
-use Rattle.ppp_bundle.specs.Frames.{Inner, bad_inner, brought, carried_by, gave, heard, inner_of, most_of_ours, not_open, passed, rejected, too_big, used, used_all, used_inner, used_of, with_pass}
-use Rattle.ppp_bundle.specs.Member.{AreInOrder, stay_of}
+use Rattle.ppp_bundle.specs.IpCalls.{called, finish_of, finished}
+use Rattle.ppp_unit_parts.specs.Calls.{has_finished, live_left, live_tells}
+use Rattle.ppp_bundle.specs.Frames.{Inner, bad_inner, brought, carried_by, gave, heard, inner_of, not_open, passed, rejected, too_big, used, used_all, used_inner, used_of, with_pass}
+use Rattle.ppp_unit_parts.specs.Live.{most_of_ours, is_up, most_to_peer}
+use Rattle.ppp_unit_parts.specs.Member.{AreInOrder, stay_of}
 use Rattle.ppp_bundle.specs.MayStand.{IsKind, Kind, Stands, UnitStands, number_of}
-use Rattle.ppp_bundle.specs.Sends.{left_by_sending, sends, sends_of, sent_as}
+use Rattle.ppp_bundle.specs.Sends.{sends, sends_of}
+use Rattle.ppp_unit_parts.specs.Pieces.{left_by_sending, sent_as}
 use Rattle.ppp_bundle.specs.UnitPart.{script_over}
 use Rattle.ppp_bundle.specs.ScriptParts.{marked, shut}
-use Rattle.ppp_bundle.specs.State.{UnitState, is_open, is_up, members_of, most_to_peer}
+use Rattle.ppp_bundle.specs.State.{UnitState, is_open, members_of}
 use Rattle.ppp_bundle.proofs.CallMoments.{args_then, scripts_turned, target_turned}
 use Rattle.ppp_bundle.proofs.CallFacts.{one_left}
 use Rattle.ppp_bundle.proofs.MidMoments.{after_call, call_is}

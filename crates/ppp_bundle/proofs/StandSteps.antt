@@ -14,21 +14,21 @@ use Rattle.ppp_mp.specs.StandsFor.{GatherNow}
 use Rattle.ppp_secrets.specs.declared.secrets.SecretsPair.{SecretsPair}
 use Rattle.ppp_bundle.specs.declared.event.BundleEvent.{BundleEvent}
 use Rattle.ppp_bundle.specs.declared.event.BundleEvent.TheVariants.{Make, In, Out, Frame, Datagram, Tick, HookOver}
-use Rattle.ppp_bundle.specs.declared.live.IpCall.TheVariants.{ComesUp, Opens, Ticks}
-use Rattle.ppp_bundle.specs.declared.live.Live.{Live}
-use Rattle.ppp_bundle.specs.declared.member.Member.{Member}
-use Rattle.ppp_bundle.specs.declared.wish.UnitWish.{UnitWish}
+use Rattle.ppp_unit_parts.specs.declared.live.IpCall.TheVariants.{ComesUp, Opens, Ticks}
+use Rattle.ppp_unit_parts.specs.declared.live.Live.{Live}
+use Rattle.ppp_unit_parts.specs.declared.member.Member.{Member}
+use Rattle.ppp_unit_parts.specs.declared.wish.UnitWish.{UnitWish}
 use Rattle.ppp_bundle.specs.Closing.{connect_end, crowded_end, idle_end, idled}
 use Rattle.ppp_bundle.specs.Frames.{stranger, used_all}
 use Rattle.ppp_bundle.specs.Gathers.{Gathered}
 use Rattle.ppp_bundle.specs.IpCalls.{called}
-use Rattle.ppp_bundle.specs.Member.{AreInOrder, has_link, member, stay_of, with_member, without}
+use Rattle.ppp_unit_parts.specs.Member.{AreInOrder, has_link, member, stay_of, with_member, without}
 use Rattle.ppp_bundle.specs.MayStand.{IsKind, IsLast, Kind, Stands, UnitStands, is_closing_in, number_of}
 use Rattle.ppp_bundle.specs.Replay.{stay_in}
 use Rattle.ppp_bundle.specs.ScriptParts.{marked, shut}
 use Rattle.ppp_bundle.specs.State.{UnitState, members_of}
 use Rattle.ppp_bundle.specs.UnitPart.{IsLinkNumber, MayCome, MayEnter, after_event, after_step, begun, entered, entered_of, framed, left_by, left_of, timed, ticked_unit}
-use Rattle.ppp_bundle.proofs.MemberFacts.{no_stay, order_with, order_without, stay_with, stay_without}
+use Rattle.ppp_unit_parts.proofs.MemberFacts.{no_stay, order_with, order_without, stay_with, stay_without}
 use Rattle.ppp_bundle.proofs.MemberSteps.{with_link}
 use Rattle.ppp_bundle.proofs.StandFacts.{in_stands, made_stands, not_kind}
 use Rattle.ppp_bundle.proofs.StandMoments.{all_used_stand, brought_stands, called_stands, carried_stands, closed_if_stands, counted_stands, either_stands, outs_target, over_stands, same_number, same_stands, unmade_stand}

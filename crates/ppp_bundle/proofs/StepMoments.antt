@@ -1,6 +1,6 @@
 -- A step of a plain bundle, by its event: what has happened goes on with it.
 use Rattle.std.proofs.Common.{◌≡◌, ◌⊎◌, inl, inr, ℕ, Bool, true, false, Option, None, Some, List, [], ◌∷◌, ◌++◌, refl, ap, sym, subst, ◌∙◌, append-nil}
-use Rattle.std.specs.Prelude.{◌==◌, if◌then◌else◌, option_to_list}
+use Rattle.std.specs.Prelude.{◌==◌, option_to_list, if◌then◌else◌}
 use Rattle.ppp_base.specs.Mrru.{MrruPair}
 use Rattle.ppp_control.specs.Rules.{by_itself, opens, comes_up, ticks}
 use Rattle.ppp_fsm.specs.Fsm.{acts_of}
@@ -14,16 +14,17 @@ use Rattle.ppp_mp.specs.StandsFor.{GatherNow}
 use Rattle.ppp_mp.specs.Schedule.{SendingNow}
 use Rattle.ppp_mp.specs.declared.members.MemberView.{MemberView}
 use Rattle.ppp_secrets.specs.declared.secrets.SecretsPair.{SecretsPair}
-use Rattle.ppp_bundle.specs.declared.live.IpCall.TheVariants.{Opens, ComesUp, Ticks}
-use Rattle.ppp_bundle.specs.declared.live.Live.{Live}
-use Rattle.ppp_bundle.specs.declared.member.Member.{Member}
-use Rattle.ppp_bundle.specs.declared.outbox.Ending.{Ending}
-use Rattle.ppp_bundle.specs.declared.outbox.UnitCounts.{UnitCounts}
+use Rattle.ppp_unit_parts.specs.declared.live.IpCall.TheVariants.{Opens, ComesUp, Ticks}
+use Rattle.ppp_unit_parts.specs.declared.live.Live.{Live}
+use Rattle.ppp_unit_parts.specs.declared.member.Member.{Member}
+use Rattle.ppp_unit_parts.specs.declared.outbox.Ending.{Ending}
+use Rattle.ppp_unit_parts.specs.declared.outbox.UnitCounts.{UnitCounts}
 use Rattle.ppp_bundle.specs.Closing.{closed, closed_if, connect_end, connected_long, idle_end, idled}
 use Rattle.ppp_bundle.specs.History.{Moment, Enters, Passes, Calls, Terms, asked_in, counted, drops_by, entered_in, given_by, given_in, is_up_in, rest_of, sends_by, to_begin, whole_by, whole_in}
-use Rattle.ppp_bundle.specs.IpCalls.{called, has_finished, ip_left, ip_tells, around_of}
+use Rattle.ppp_bundle.specs.IpCalls.{called}
+use Rattle.ppp_unit_parts.specs.Calls.{has_finished, ip_left, ip_tells, around_of}
 use Rattle.ppp_bundle.specs.Lives.{CutsAll, GathersAll, HasMember, Reached, mru_of, own_in}
-use Rattle.ppp_bundle.specs.Member.{member, views_of, with_member}
+use Rattle.ppp_unit_parts.specs.Member.{member, views_of, with_member}
 use Rattle.ppp_bundle.specs.ScriptParts.{marked}
 use Rattle.ppp_bundle.specs.State.{UnitState}
 use Rattle.ppp_bundle.specs.UnitPart.{begun, entered, entered_of, script_over, ticked_unit, timed}

@@ -14,20 +14,20 @@ use Rattle.ppp_mp.specs.StandsFor.{GatherNow, with_looks}
 use Rattle.ppp_secrets.specs.declared.secrets.SecretsPair.{SecretsPair}
 use Rattle.ppp_bundle.specs.declared.event.BundleEvent.{BundleEvent}
 use Rattle.ppp_bundle.specs.declared.event.BundleEvent.TheVariants.{Make, In, Out, Frame, Datagram, Tick, HookOver}
-use Rattle.ppp_bundle.specs.declared.live.Live.{Live}
-use Rattle.ppp_bundle.specs.declared.member.Member.{Member}
+use Rattle.ppp_unit_parts.specs.declared.live.Live.{Live}
+use Rattle.ppp_unit_parts.specs.declared.member.Member.{Member}
 use Rattle.ppp_bundle.specs.Closing.{crowded_end, looked, unmade}
 use Rattle.ppp_bundle.specs.Gathers.{AddsEntry, Gathered, Gathers, Same, TakesPiece, link_joins, link_leaves}
 use Rattle.ppp_bundle.specs.History.{Moment, Terms}
 use Rattle.ppp_bundle.specs.Lives.{GathersAlways, GathersFor, GoesOn, GoesOnAll, HasBegun, HasHistory, HasPlainHistory, IsUnit, Lives, terms_of}
 use Rattle.ppp_bundle.specs.MayStand.{IsKind, Kind, UnitStands, kind_of, mrru_of}
-use Rattle.ppp_bundle.specs.Member.{AreInOrder, has_link, member, stay_of, with_member, without}
+use Rattle.ppp_unit_parts.specs.Member.{AreInOrder, has_link, member, stay_of, with_member, without}
 use Rattle.ppp_bundle.specs.Replay.{since_made}
 use Rattle.ppp_bundle.specs.Sound.{IsSound}
 use Rattle.ppp_bundle.specs.State.{UnitState, members_of}
 use Rattle.ppp_bundle.specs.UnitPart.{IsLinkNumber, IsPlainEvent, MayCome, MayEnter, UnitPart, after_event, after_step, asked_of, asked_to_leave, begins_with, if_multilink, left_by, left_of, piece_of, unless_last}
 use Rattle.ppp_bundle.proofs.GoesFacts.{goes_all, has_begun, history_step, none_if, none_then, plain_step}
-use Rattle.ppp_bundle.proofs.MemberFacts.{has_is_some, stay_without, stays_from}
+use Rattle.ppp_unit_parts.proofs.MemberFacts.{has_is_some, stay_without, stays_from}
 use Rattle.ppp_bundle.proofs.PlainFacts.{plain_after}
 use Rattle.ppp_bundle.proofs.SoundFacts.{by_none}
 use Rattle.ppp_bundle.proofs.StandSteps.{kind_after, step_stands}

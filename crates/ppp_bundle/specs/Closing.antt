@@ -1,21 +1,18 @@
 -- How a bundle ends.
-use Rattle.std.specs.Prelude.{ℕ, ◌*◌, ◌-◌, ◌==◌, ◌&&◌, Bool, not, nat_le, min, Option, None, Some, List, [], ◌∷◌, if◌then◌else◌}
-use Rattle.ppp_base.specs.declared.posts.CloseCause.{CloseCause}
+use Rattle.std.specs.Prelude.{ℕ, ◌*◌, ◌-◌, ◌==◌, ◌&&◌, nat_le, Option, None, Some, List, [], ◌∷◌, if◌then◌else◌}
 use Rattle.ppp_base.specs.declared.posts.CloseCause.TheVariants.{Idle, ConnectTime, TooManyChanges}
 use Rattle.ppp_base.specs.Posts.{cause_number}
 use Rattle.ppp_mark.specs.declared.mark.Mark.{Mark}
 use Rattle.ppp_mark.specs.Marks.{close_detail, close_elapsed, close_mark, out_mark, unmade_mark}
 use Rattle.ppp_mark.specs.ScriptLog.{ScriptLogState}
-use Rattle.ppp_bundle.specs.declared.live.Live.{Live}
-use Rattle.ppp_bundle.specs.declared.member.Member.{Member}
-use Rattle.ppp_bundle.specs.declared.outbox.BundleEnd.{BundleEnd}
-use Rattle.ppp_bundle.specs.declared.outbox.Ending.{Ending}
+use Rattle.ppp_unit_parts.specs.declared.live.Live.{Live}
+use Rattle.ppp_unit_parts.specs.declared.member.Member.{Member}
+use Rattle.ppp_unit_parts.specs.declared.outbox.BundleEnd.{BundleEnd}
+use Rattle.ppp_unit_parts.specs.declared.outbox.Ending.{Ending}
 use Rattle.ppp_bundle.specs.Replay.{since_made}
 use Rattle.ppp_bundle.specs.ScriptParts.{marked, shut}
-use Rattle.ppp_bundle.specs.State.{UnitState, is_up}
-
-abbrev pub ending : CloseCause → ℕ → Ending
-ending cause elapsed = record { cause = cause; elapsed_ms = elapsed }
+use Rattle.ppp_bundle.specs.State.{UnitState}
+use Rattle.ppp_unit_parts.specs.Live.{ending, over_limit}
 
 -- all members go out, in link order
 abbrev pub outs : {S : Type 0} → ℕ → List Member → ScriptLogState S → ScriptLogState S
@@ -44,17 +41,6 @@ closed e u = closed_of u.live e u
 abbrev pub closed_if : {S : Type 0} → Option Ending → UnitState S → UnitState S
 closed_if None u = u
 closed_if (Some e) u = closed e u
-
--- the greatest u32
-abbrev pub most_elapsed : ℕ
-most_elapsed = 4294967295
-
--- In Opened so many seconds have passed since that moment; with 0 seconds there is no limit.
-abbrev pub is_over : ℕ → ℕ → ℕ → Live → Bool
-is_over seconds now since l = is_up l && not (seconds == 0) && nat_le (seconds * 1000) (now - since)
-
-abbrev pub over_limit : CloseCause → ℕ → ℕ → ℕ → Live → Option Ending
-over_limit cause seconds now since l = if is_over seconds now since l then Some (ending cause (min (now - since) most_elapsed)) else None
 
 -- No datagram passed for `idle` seconds (pppd(8), idle).
 abbrev pub idle_end : ℕ → Option Live → Option Ending

@@ -6,12 +6,13 @@ use Rattle.ppp_base.specs.declared.protocol.TheConstants.{IP, IPCP, LCP}
 use Rattle.ppp_packet.specs.declared.packet.Packet.{Packet}
 use Rattle.ppp_packet.specs.PacketOf.{packet_in}
 use Rattle.ppp_secrets.specs.declared.secrets.SecretsPair.{SecretsPair}
-use Rattle.ppp_bundle.specs.declared.live.Live.{Live}
-use Rattle.ppp_bundle.specs.declared.live.IpCall.TheVariants.{Hears}
+use Rattle.ppp_unit_parts.specs.declared.live.Live.{Live}
+use Rattle.ppp_unit_parts.specs.declared.live.IpCall.TheVariants.{Hears}
 use Rattle.ppp_bundle.specs.Closing.{looked}
 use Rattle.ppp_bundle.specs.IpCalls.{called}
 use Rattle.ppp_bundle.specs.Sends.{rejection, sends}
-use Rattle.ppp_bundle.specs.State.{UnitState, is_open, members_of, most_to_peer}
+use Rattle.ppp_bundle.specs.State.{UnitState, is_open, members_of}
+use Rattle.ppp_unit_parts.specs.Live.{most_to_peer, most_of_ours}
 
 -- Counts stand still at the end of a u64.
 abbrev pub not_open : {S : Type 0} → UnitState S → UnitState S
@@ -65,10 +66,6 @@ inner_of_two first (second ∷ rest) = if second % 2 == 1 then Some (inner (firs
 abbrev pub inner_of : List ℕ → Option Inner
 inner_of [] = None
 inner_of (first ∷ rest) = if first % 2 == 1 then Some (inner first rest) else inner_of_two first rest
-
-abbrev pub most_of_ours : Option MrruPair → ℕ
-most_of_ours None = 0
-most_of_ours (Some mrru) = mrru.ours
 
 -- Its information is no longer than our MRRU (RFC 1990, section 5.1.1). A datagram and a packet for IPCP are used, a packet of LCP is dropped, and any other
 -- protocol is rejected by the least member.

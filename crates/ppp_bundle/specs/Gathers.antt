@@ -2,9 +2,8 @@
 use Rattle.std.specs.Prelude.{ℕ, ◌≡◌, ◌<◌, ◌≤◌, List, [], length}
 use Rattle.ppp_mp.specs.Delivered.{Entry, Gathering, Joins, Leaves, nothing}
 use Rattle.ppp_mp.specs.Header.{fragment_of, long_octets, long_space}
-use Rattle.ppp_mp.specs.StandsFor.{Adds, AddsPiece, StandsFor, with_looks}
+use Rattle.ppp_mp.specs.StandsFor.{Adds, AddsPiece, StandsFor, with_looks, GatherNow}
 use Rattle.ppp_mp.specs.declared.counts.PieceNow.{PieceNow}
-use Rattle.ppp_mp.specs.StandsFor.{GatherNow}
 
 pub data GatherCall : Type 0 where
   nothing_asked : GatherCall

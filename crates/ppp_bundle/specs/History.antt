@@ -1,6 +1,6 @@
 -- What has happened to a bundle since it was made, by looking back over it, the newest first. Nothing here says in which order a unit does its work: only
 -- what its IPCP and its gatherer stand for, what IPCP is asked just before each of its calls, and what is sent, given and dropped.
-use Rattle.std.specs.Prelude.{ℕ, zero, suc, ◌*◌, ◌-◌, ◌<◌, ◌≤◌, ◌≡◌, ◌==◌, ◌&&◌, ◌||◌, ⊤, min, nat_le, nat_lt, not, Bool, true, false, if◌then◌else◌, Option, None, Some, is_some, List, [], ◌∷◌, ◌++◌, length}
+use Rattle.std.specs.Prelude.{ℕ, zero, suc, ◌*◌, ◌-◌, ◌<◌, ◌≤◌, ◌≡◌, ◌==◌, ◌&&◌, ◌||◌, ⊤, min, nat_le, nat_lt, not, Bool, true, false, Option, None, Some, is_some, List, [], ◌∷◌, ◌++◌, length, if◌then◌else◌}
 use Rattle.ppp_base.specs.declared.allow.Allow.{Allow}
 use Rattle.ppp_base.specs.declared.posts.CloseCause.{CloseCause}
 use Rattle.ppp_base.specs.declared.posts.CloseCause.TheVariants.{Idle, ConnectTime, IpcpFailed, EndedByPeer, TooManyChanges}
@@ -18,13 +18,13 @@ use Rattle.ppp_mp.specs.declared.members.MemberView.{MemberView}
 use Rattle.ppp_packet.specs.declared.packet.Packet.{Packet}
 use Rattle.ppp_packet.specs.PacketOf.{laid_packet, packet_in}
 use Rattle.ppp_secrets.specs.declared.secrets.SecretsPair.{SecretsPair}
-use Rattle.ppp_bundle.specs.declared.outbox.Sending.{Sending}
-use Rattle.ppp_bundle.specs.declared.outbox.UnitCounts.{UnitCounts}
-use Rattle.ppp_bundle.specs.declared.wish.UnitWish.{UnitWish}
-use Rattle.ppp_bundle.specs.Closing.{most_elapsed}
-use Rattle.ppp_bundle.specs.Frames.{Inner, inner, inner_of, most_of_ours}
-use Rattle.ppp_bundle.specs.IpCalls.{has_finished, is_rtr}
-use Rattle.ppp_bundle.specs.Sends.{packet_of, sending}
+use Rattle.ppp_unit_parts.specs.declared.outbox.Sending.{Sending}
+use Rattle.ppp_unit_parts.specs.declared.outbox.UnitCounts.{UnitCounts}
+use Rattle.ppp_unit_parts.specs.declared.wish.UnitWish.{UnitWish}
+use Rattle.ppp_unit_parts.specs.Live.{most_elapsed, most_of_ours}
+use Rattle.ppp_bundle.specs.Frames.{Inner, inner, inner_of}
+use Rattle.ppp_unit_parts.specs.Calls.{has_finished, is_rtr}
+use Rattle.ppp_unit_parts.specs.Pieces.{packet_of, sending}
 
 -- A link comes in, with what its peer takes, or goes out; a link brings a frame; a packet is gathered; a datagram is to go to the peer; the unit is told a
 -- time, which is its time then; or IPCP is called, and answers.

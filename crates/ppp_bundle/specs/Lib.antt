@@ -5,14 +5,12 @@ pub use Rattle.ppp_hooks.specs.HookWords
 pub use Rattle.ppp_mark.specs.Log
 pub use Rattle.ppp_mark.specs.ScriptLog
 pub use Rattle.ppp_mark.specs.Scripts
-pub mod Member
 pub mod State
 pub mod ScriptParts
 pub mod Replay
 pub mod Closing
 pub mod Sends
 pub mod IpCalls
-pub mod Fits
 pub mod Frames
 pub mod Gathers
 pub mod UnitPart

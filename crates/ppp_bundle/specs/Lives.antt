@@ -1,5 +1,5 @@
 -- How a unit stands for what has happened to its bundle, and how one event goes on with it.
-use Rattle.std.specs.Prelude.{ℕ, ◌≡◌, ◌↔◌, ◌==◌, ◌||◌, ⊤, Bool, false, if◌then◌else◌, Option, None, Some, IfSome, option_to_list, List, [], ◌∷◌, ◌++◌}
+use Rattle.std.specs.Prelude.{ℕ, ◌≡◌, ◌↔◌, ◌==◌, ◌||◌, ⊤, Bool, false, Option, None, Some, IfSome, option_to_list, List, [], ◌∷◌, ◌++◌, if◌then◌else◌}
 use Rattle.std.specs.List.{list_any}
 use Rattle.ppp_base.specs.declared.posts.CloseCause.{CloseCause}
 use Rattle.ppp_base.specs.Mrru.{MrruPair}
@@ -17,12 +17,12 @@ use Rattle.ppp_mp.specs.StandsFor.{GatherNow, StandsFor as GatherStandsFor}
 use Rattle.ppp_secrets.specs.declared.secrets.SecretsPair.{SecretsPair}
 use Rattle.ppp_bundle.specs.declared.event.BundleEvent.{BundleEvent}
 use Rattle.ppp_bundle.specs.declared.event.BundleEvent.TheVariants.{Make, In, Out, Frame, Datagram, Tick, HookOver}
-use Rattle.ppp_bundle.specs.declared.live.Live.{Live}
-use Rattle.ppp_bundle.specs.declared.member.Member.{Member}
-use Rattle.ppp_bundle.specs.declared.outbox.BundleEnd.{BundleEnd}
+use Rattle.ppp_unit_parts.specs.declared.live.Live.{Live}
+use Rattle.ppp_unit_parts.specs.declared.member.Member.{Member}
+use Rattle.ppp_unit_parts.specs.declared.outbox.BundleEnd.{BundleEnd}
 use Rattle.ppp_bundle.specs.History.{Moment, Enters, Goes, Brings, Gathered, Carries, Passes, Calls, Terms, HasReason, InOrder, asked_in, by_peer_after, calls_in, counts_in, cuts_in, entered_in, entries_in, gathered_in, given_in, is_member_in, mru_in, opened_in, passed_in, time_in, was_up_after, whole_in}
 use Rattle.ppp_bundle.specs.MayStand.{UnitStands, kind_of}
-use Rattle.ppp_bundle.specs.Member.{has_link, is_link, views_of}
+use Rattle.ppp_unit_parts.specs.Member.{has_link, is_link, views_of}
 use Rattle.ppp_bundle.specs.Replay.{since_made}
 use Rattle.ppp_bundle.specs.Sound.{IsSound}
 use Rattle.ppp_bundle.specs.State.{UnitState}

@@ -1,5 +1,5 @@
 -- Where the marks of bundles and members may stand in a unit's log, by the marks before them, the newest first.
-use Rattle.std.specs.Prelude.{ℕ, ◌+◌, ◌≡◌, ◌≢◌, ◌⊎◌, ◌==◌, ◌||◌, ⊤, Bool, true, false, if◌then◌else◌, Option, None, Some, IsSome, IfSome, List, [], ◌∷◌}
+use Rattle.std.specs.Prelude.{ℕ, ◌+◌, ◌≡◌, ◌≢◌, ◌⊎◌, ◌==◌, ◌||◌, ⊤, Bool, true, false, Option, None, Some, IsSome, IfSome, List, [], ◌∷◌, if◌then◌else◌}
 use Rattle.ppp_hooks.specs.HookPast.{greatest_in, open_in}
 use Rattle.ppp_base.specs.Mrru.{MrruPair}
 use Rattle.ppp_mark.specs.declared.mark.Mark.{Mark}
@@ -7,9 +7,9 @@ use Rattle.ppp_mark.specs.declared.kind.TheConstants.{CLOSE, IN, IP_OPEN, MADE, 
 use Rattle.ppp_mark.specs.Scripts.{said_in}
 use Rattle.ppp_bundle.specs.Replay.{bundle_in, bundles_in, openings_in, stay_in}
 use Rattle.ppp_mp.specs.StandsFor.{GatherNow}
-use Rattle.ppp_bundle.specs.declared.live.Live.{Live}
-use Rattle.ppp_bundle.specs.declared.member.Member.{Member}
-use Rattle.ppp_bundle.specs.Member.{AreInOrder, stay_of}
+use Rattle.ppp_unit_parts.specs.declared.live.Live.{Live}
+use Rattle.ppp_unit_parts.specs.declared.member.Member.{Member}
+use Rattle.ppp_unit_parts.specs.Member.{AreInOrder, stay_of}
 use Rattle.ppp_bundle.specs.State.{UnitState, members_of}
 use Rattle.ppp_base.specs.declared.hook_target.HookTarget.TheVariants.{Unit as OfUnit}
 

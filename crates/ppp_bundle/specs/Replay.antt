@@ -9,7 +9,7 @@ use Rattle.ppp_mark.specs.declared.kind.TheConstants.{MADE, UNMADE, IN, OUT, IP_
 use Rattle.ppp_mark.specs.Marks.{address_number}
 use Rattle.ppp_mark.specs.ScriptLog.{ScriptLogState}
 use Rattle.ppp_mark.specs.Scripts.{said_in}
-use Rattle.ppp_bundle.specs.Member.{stay_of}
+use Rattle.ppp_unit_parts.specs.Member.{stay_of}
 use Rattle.ppp_bundle.specs.State.{UnitState, members_of}
 
 -- how many bundles were made

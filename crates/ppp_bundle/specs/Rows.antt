@@ -13,8 +13,8 @@ use Rattle.ppp_outside.specs.declared.spawner.ScriptEnd.TheVariants.{Exit}
 use Rattle.ppp_secrets.specs.declared.secrets.SecretsPair.{SecretsPair}
 use Rattle.ppp_bundle.specs.declared.event.BundleEvent.{BundleEvent}
 use Rattle.ppp_bundle.specs.declared.event.BundleEvent.TheVariants.{Make, In, Frame, HookOver}
-use Rattle.ppp_bundle.specs.declared.outbox.Sending.{Sending}
-use Rattle.ppp_bundle.specs.declared.wish.UnitWish.{UnitWish}
+use Rattle.ppp_unit_parts.specs.declared.outbox.Sending.{Sending}
+use Rattle.ppp_unit_parts.specs.declared.wish.UnitWish.{UnitWish}
 use Rattle.ppp_bundle.specs.State.{UnitState}
 use Rattle.ppp_bundle.specs.UnitPart.{after_step}
 

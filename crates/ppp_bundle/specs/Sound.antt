@@ -1,18 +1,18 @@
 -- What stays so of a unit from step to step, beside what it answers.
-use Rattle.std.specs.Prelude.{ℕ, Bool, ◌+◌, ◌<◌, ◌≤◌, ◌≡◌, ◌^◌, ◌==◌, Option, None, Some, is_some, option_map, IfSome, List, length, if◌then◌else◌}
+use Rattle.std.specs.Prelude.{ℕ, Bool, ◌+◌, ◌<◌, ◌≤◌, ◌≡◌, ◌^◌, ◌==◌, Option, None, Some, is_some, option_map, IfSome, length, if◌then◌else◌}
 use Rattle.ppp_base.specs.declared.hook_target.HookTarget.TheVariants.{Unit as OfUnit}
 use Rattle.ppp_hooks.specs.declared.facts.HookFacts.{HookFacts}
 use Rattle.ppp_hooks.specs.declared.facts.Start.{Start}
 use Rattle.ppp_hooks.specs.HookPast.{open_in}
-use Rattle.ppp_ipcp.specs.Session.{IpcpCall, StandsFor}
 use Rattle.ppp_mark.specs.Log.{room_of}
 use Rattle.ppp_mark.specs.ScriptLog.{ScriptLogState}
 use Rattle.ppp_mark.specs.Scripts.{said_in}
-use Rattle.ppp_bundle.specs.declared.live.Live.{Live}
-use Rattle.ppp_bundle.specs.Fits.{Fits}
-use Rattle.ppp_bundle.specs.Member.{stay_of}
+use Rattle.ppp_unit_parts.specs.declared.live.Live.{Live}
+use Rattle.ppp_unit_parts.specs.Fits.{Fits}
+use Rattle.ppp_unit_parts.specs.Member.{stay_of}
 use Rattle.ppp_bundle.specs.Replay.{LogSays, bundle_in, since_made, stay_in}
 use Rattle.ppp_bundle.specs.State.{UnitState, is_open, members_of}
+use Rattle.ppp_unit_parts.specs.Live.{SomeSession}
 
 -- So many marks at most were added, and no bundle was made: each of them is one of those since the last was made.
 pub record Adds {S : Type 0} (most : ℕ) (old new : ScriptLogState S) : Type 0 where
@@ -36,11 +36,6 @@ pub record Moves {S : Type 0} (most : ℕ) (old new : ScriptLogState S) : Type 0
 -- what a log says of whether IP is open
 abbrev pub is_open_in : {S : Type 0} → ScriptLogState S → Option ℕ
 is_open_in s = open_in (said_in s.log.past)
-
--- IPCP stands for the calls of some session, each of which is lawful.
-pub record SomeSession (l : Live) : Type 0 where
-  pub past : List IpcpCall
-  pub stands : StandsFor l.wish.ip l.ipcp past
 
 -- The scripts are those of this unit, IP is open exactly while IPCP is in Opened, and of a bundle that lives the marks since it was made are counted.
 pub record Agrees {S : Type 0} (u : UnitState S) : Type 0 where

@@ -5,42 +5,25 @@ use Rattle.ppp_base.specs.declared.protocol.TheConstants.{MULTILINK}
 use Rattle.ppp_base.specs.Mrru.{MrruPair}
 use Rattle.ppp_hooks.specs.HookCounts.{DoneCounts, MachineCounts}
 use Rattle.ppp_hooks.specs.HookState.{DoneState}
-use Rattle.ppp_ipcp.specs.Session.{session_after}
 use Rattle.ppp_mark.specs.Log.{room_of}
 use Rattle.ppp_mark.specs.Marks.{in_mark, made_mark, out_mark}
 use Rattle.ppp_mark.specs.ScriptLog.{IsRunningJob}
 use Rattle.ppp_secrets.specs.declared.secrets.SecretsPair.{SecretsPair}
 use Rattle.ppp_bundle.specs.declared.event.BundleEvent.{BundleEvent}
 use Rattle.ppp_bundle.specs.declared.event.BundleEvent.TheVariants.{Make, In, Out, Frame, Datagram, Tick, HookOver}
-use Rattle.ppp_bundle.specs.declared.live.Live.{Live}
-use Rattle.ppp_bundle.specs.declared.live.IpCall.TheVariants.{Opens, ComesUp, Ticks}
-use Rattle.ppp_bundle.specs.declared.member.Member.{Member}
-use Rattle.ppp_bundle.specs.declared.wish.UnitWish.{UnitWish}
+use Rattle.ppp_unit_parts.specs.declared.live.Live.{Live}
+use Rattle.ppp_unit_parts.specs.declared.live.IpCall.TheVariants.{Opens, ComesUp, Ticks}
+use Rattle.ppp_unit_parts.specs.declared.member.Member.{Member}
+use Rattle.ppp_unit_parts.specs.declared.wish.UnitWish.{UnitWish}
 use Rattle.ppp_bundle.specs.Closing.{connected_long, idled, looked, unmade}
 use Rattle.ppp_bundle.specs.Frames.{brought, carried, stranger, used_all}
 use Rattle.ppp_bundle.specs.Gathers.{GatherCall, Gathered, Gathers, begins, link_joins, link_leaves, nothing_asked, piece_comes}
 use Rattle.ppp_bundle.specs.IpCalls.{called}
-use Rattle.ppp_bundle.specs.Member.{has_link, member, stay_of, with_member, without}
+use Rattle.ppp_unit_parts.specs.Member.{has_link, member, stay_of, with_member, without}
 use Rattle.ppp_bundle.specs.Replay.{bundles_in}
 use Rattle.ppp_bundle.specs.ScriptParts.{marked, over}
 use Rattle.ppp_bundle.specs.State.{UnitState, members_of}
-
--- A bundle is made. Its IPCP is in Initial, and no piece was sent.
-abbrev pub new_live : ℕ → ℕ → UnitWish → Option MrruPair → Allow → Live
-new_live number made_at wish mrru allow = record {
-  number = number;
-  made_at = made_at;
-  wish = wish;
-  allow = allow;
-  mrru = mrru;
-  members = [];
-  ipcp = session_after wish.ip [];
-  pieces = record { number = 0; turn = 0 };
-  was_open = false;
-  by_peer = false;
-  opened_at = 0;
-  passed_at = 0;
-}
+use Rattle.ppp_unit_parts.specs.Live.{new_live}
 
 abbrev pub made : {S : Type 0} → ℕ → ℕ → UnitWish → Option MrruPair → Allow → UnitState S → UnitState S
 made number maker wish mrru allow u = record u {

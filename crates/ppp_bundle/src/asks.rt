@@ -1,6 +1,6 @@
 // What the gatherer of a multilink bundle is asked at an event (RFC 1990, section 4.1).
 ghost use Rattle.std.specs.Prelude.{◌≡◌, ◌≤◌, [], ℕ, List, length, take, if◌then◌else◌};
-ghost use Rattle.ppp_bundle.specs.Gathers.{Gathered, Gathers, TakesPiece, link_leaves, nothing_asked, piece_comes};
+ghost use Rattle.ppp_bundle.specs.Gathers.{Gathers, TakesPiece, link_leaves, nothing_asked, piece_comes};
 ghost use Rattle.ppp_bundle.specs.UnitPart.{IsLinkNumber, MayCome, asked_of, asked_to_join, asked_to_leave, asked_to_take, begins_with};
 
 use crate::event::BundleEvent;

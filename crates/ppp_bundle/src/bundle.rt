@@ -1,4 +1,4 @@
-ghost use Rattle.std.specs.Prelude.{◌≡◌, ℕ, ◌+◌, ◌<◌, ◌≤◌, ◌^◌, ◌↔◌, [], ◌∷◌, Some, None, IfSome, IfOk, IfNone, IsSome, OnSome, MatchOption, length, option_map, slice_get, take};
+ghost use Rattle.std.specs.Prelude.{◌≡◌, ℕ, ◌+◌, ◌<◌, ◌≤◌, ◌^◌, ◌↔◌, [], ◌∷◌, Some, None, IfSome, IfOk, IfNone, IsSome, OnSome, MatchOption, is_some, length, option_map, take};
 ghost use Rattle.ppp_base.specs.declared.hook_target.HookTarget.TheVariants.{Unit as OfUnit};
 ghost use Rattle.ppp_base.specs.Stepped.{IsTaken, OnTaken, IfStale};
 ghost use Rattle.ppp_hooks.specs.HookCounts.{JobCounts, MachineCounts};
@@ -8,22 +8,21 @@ ghost use Rattle.ppp_hooks.specs.HookWords.{words_of_start};
 ghost use Rattle.ppp_mark.specs.Log.{no_marks};
 ghost use Rattle.ppp_mark.specs.Scripts.{LogLaw, LogSettled, said_in};
 ghost use Rattle.ppp_bundle.specs.Lives.{GathersAlways, GoesOnAll, HasBegun, HasPlainHistory};
-ghost use Rattle.ppp_bundle.specs.MayStand.{AllMayStand};
+ghost use Rattle.ppp_bundle.specs.MayStand.{AllMayStand, mrru_of};
 ghost use Rattle.ppp_bundle.specs.Replay.{Replay, bundles_in, openings_in};
 ghost use Rattle.ppp_bundle.specs.Sound.{IsGoing, IsSound};
 ghost use Rattle.ppp_bundle.specs.State.{is_open, members_of};
-ghost use Rattle.ppp_bundle.specs.UnitPart.{EventCounts, IsFresh, IsLinkNumber, IsPlainEvent, MayCome, UnitPart, after_event, after_step};
+ghost use Rattle.ppp_bundle.specs.UnitPart.{EventCounts, IsFresh, IsLinkNumber, IsPlainEvent, MayCome, UnitPart, after_event};
 
 use crate::event::BundleEvent;
-use crate::member::Member;
-use crate::outbox::{BundleEnd, GivenList, Sending, SentList, UnitCounts};
 use crate::unit_state::UnitCore;
-use ppp_base::{Datagram, HookTarget, LEAST_MRRU, NoMemory, Stepped, Unit};
+use ppp_base::{Datagram, HookTarget, LEAST_MRRU, Mrru, NoMemory, Stepped, Unit};
 use ppp_hooks::HookJob;
 use ppp_mark::{Log, ScriptLog};
 use ppp_mp::{Gather, Given};
 use ppp_outside::Spawner;
 use ppp_secrets::SecretsPair;
+use ppp_unit_parts::{BundleEnd, GivenList, Member, Sending, SentList, UnitCounts};
 use std::alloc::Global;
 use std::marker::Model;
 
@@ -264,12 +263,30 @@ impl<S: Spawner> Bundle<S> {
         self.core.bundles
     }
 
-    /// The member at this place, in link order. None where there are fewer.
-    pub fn member(&self, at: usize) -> Option<Member>
-        ensures { result ≡ slice_get (members_of self.now.live) at }
+    /// The members in link order.
+    pub fn members(&self) -> &[Member]
+        ensures value { result.now ≡ members_of self.now.live }
+        ensures few { length result.now ≤ 16 }
     {
         match &self.core.live {
-            Some(live) => live.members.as_slice().get(at).copied(),
+            Some(live) => live.members.as_slice(),
+            None => &[],
+        }
+    }
+
+    /// Whether a bundle lives.
+    pub fn has_bundle(&self) -> bool
+        ensures { result ≡ is_some self.now.live }
+    {
+        self.core.live.is_some()
+    }
+
+    /// Of a multilink bundle that lives what each end takes. None where there is none.
+    pub fn mrru(&self) -> Option<Mrru>
+        ensures { result ≡ mrru_of self.now.live }
+    {
+        match &self.core.live {
+            Some(live) => live.mrru,
             None => None,
         }
     }

@@ -1,7 +1,7 @@
-use crate::wish::UnitWish;
 use ppp_base::{Allow, Datagram, Frame, LinkId, Mrru};
 use ppp_hooks::HookDone;
 use ppp_outside::Spawner;
+use ppp_unit_parts::UnitWish;
 
 /// What happens to a unit.
 #[derive(Drop)]

@@ -1,25 +1,24 @@
 // What comes to a bundle: frames of links, packets that were gathered of pieces, and datagrams for the peer.
 ghost use Rattle.std.specs.Prelude.{◌≡◌, ◌+◌, ◌*◌, ◌≤◌, ◌<◌, ◌==◌, [], ◌∷◌, true, false, Option, Some, None, IfSome, ℕ, List, length, option_map, option_to_list, take, if◌then◌else◌};
 ghost use Rattle.ppp_base.specs.Mrru.{MrruPair};
-ghost use Rattle.ppp_bundle.specs.Frames.{brought, carried, gave, heard, inner, inner_of, most_of_ours, rejected, used, used_all, used_inner};
+ghost use Rattle.ppp_bundle.specs.Frames.{brought, carried, gave, heard, inner, inner_of, rejected, used, used_all, used_inner};
+ghost use Rattle.ppp_unit_parts.specs.Live.{most_of_ours};
 ghost use Rattle.ppp_bundle.specs.Closing.{looked};
-ghost use Rattle.ppp_bundle.specs.Member.{has_link};
+ghost use Rattle.ppp_unit_parts.specs.Member.{has_link};
 ghost use Rattle.ppp_bundle.specs.Sends.{rejection};
 ghost use Rattle.ppp_bundle.specs.Sound.{Agrees, Goes, HasRoom, IsGoing, IsReady, IsSound};
-ghost use Rattle.ppp_bundle.specs.State.{is_open, members_of, most_to_peer};
+ghost use Rattle.ppp_bundle.specs.State.{members_of};
 ghost use Rattle.ppp_bundle.specs.UnitPart.{framed};
-ghost use Rattle.ppp_bundle.specs.declared.outbox.TheConstants.{MOST_GIVEN, MOST_SENT};
+ghost use Rattle.ppp_unit_parts.specs.declared.outbox.TheConstants.{MOST_GIVEN, MOST_SENT};
 ghost use Rattle.ppp_packet.specs.PacketOf.{packet_in};
 
-use crate::live::IpCall;
-use crate::member::MemberList;
-use crate::outbox::Sending;
 use crate::unit_state::UnitCore;
 use ppp_base::{Datagram, Frame, LinkId, MOST_FRAME, protocol};
 use ppp_mp::Given;
 use ppp_outside::Spawner;
 use ppp_packet::Packet;
 use ppp_secrets::SecretsPair;
+use ppp_unit_parts::{IpCall, MemberList, Sending};
 
 // The protocol of a packet that was gathered, which is one odd octet or an even one and then an odd one, and its information.
 fn inner_of(packet: &[u8]) -> Option<(u16, &[u8])>

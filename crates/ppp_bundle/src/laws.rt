@@ -1,20 +1,15 @@
 //! What follows from the definitions alone: worked rows of a unit.
 
-ghost use Rattle.std.specs.Prelude.{◌≡◌, ◌<◌, ◌++◌, ℕ, Some, None, List, [], ◌∷◌, true, false, length, replicate, take};
-ghost use Rattle.ppp_base.specs.declared.posts.CloseCause.TheVariants.{Idle, ConnectTime, IpcpFailed, EndedByPeer};
+ghost use Rattle.std.specs.Prelude.{◌≡◌, ◌++◌, ℕ, Some, None, List, [], ◌∷◌, true, false, length, replicate, take};
+ghost use Rattle.ppp_base.specs.declared.posts.CloseCause.TheVariants.{Idle, EndedByPeer};
 ghost use Rattle.ppp_base.specs.declared.protocol.TheConstants.{IP, IPCP};
 ghost use Rattle.ppp_fsm.specs.declared.fsm.Limits.{Limits};
-ghost use Rattle.ppp_mark.specs.Marks.{close_mark, ended_mark, in_mark, ip_closed_mark, made_mark, out_mark, started_mark, unmade_mark};
-ghost use Rattle.ppp_mp.specs.Cut.{Cut};
-ghost use Rattle.ppp_mp.specs.Header.{long_octets};
-ghost use Rattle.ppp_mp.specs.Members.{AreMembers};
-ghost use Rattle.ppp_mp.specs.declared.cuts.CutPiece.{CutPiece};
-ghost use Rattle.ppp_mp.specs.declared.members.MemberView.{MemberView};
+ghost use Rattle.ppp_mark.specs.Marks.{close_mark, ended_mark, in_mark, ip_closed_mark, out_mark, started_mark, unmade_mark};
 ghost use Rattle.ppp_mp.specs.StandsFor.{GatherNow};
 ghost use Rattle.ppp_outside.specs.declared.spawner.ScriptEnd.TheVariants.{Exit};
 ghost use Rattle.ppp_bundle.specs.declared.event.BundleEvent.TheVariants.{Datagram, Frame, Out, Tick};
-ghost use Rattle.ppp_bundle.specs.Sends.{cut_of, packet_of, pieces_of};
-ghost use Rattle.ppp_bundle.specs.Rows.{Lawful, address, all_of, at_open, begins, begins_with_two, first_marks, fresh, marks_in, negotiates, peer_ends, piece, script_ends, ten};
+ghost use Rattle.ppp_unit_parts.specs.Pieces.{packet_of, pieces_of};
+ghost use Rattle.ppp_bundle.specs.Rows.{Lawful, address, all_of, at_open, begins, begins_with_two, first_marks, fresh, marks_in, negotiates, peer_ends, piece, script_ends};
 
 /// A bundle is made and link 1 comes in: the first request goes out. The peer's request and its ack open IP, and the start stands behind
 /// it, before the two addresses.
@@ -87,10 +82,4 @@ pub fn sends_pieces()
 pub fn leaves_another()
     ensures marks { (lawful : Lawful) (limits : Limits) (gather : GatherNow) → marks_in (all_of (begins_with_two lawful limits ++ Out 1 1 ∷ []) (fresh gather)) ≡ first_marks ++ in_mark 0 2 1 ∷ out_mark 0 1 1 ∷ [] }
     ensures ended { (lawful : Lawful) (limits : Limits) (gather : GatherNow) → (all_of (begins_with_two lawful limits ++ Out 1 1 ∷ []) (fresh gather)).ended ≡ None }
-{}
-
-/// The cut of a packet over the members of a bundle is one list of pieces: that which a multilink bundle sends.
-pub fn one_cut()
-    ensures one { (len turn : ℕ) (members : List MemberView) (pieces : List CutPiece) → Cut long_octets len members turn pieces → pieces ≡ cut_of len members turn }
-    ensures some { (len turn : ℕ) (members : List MemberView) → 0 < len → 0 < length members → AreMembers 0 members → Cut long_octets len members turn (cut_of len members turn) }
 {}

@@ -10,19 +10,12 @@ mod bundle;
 mod event;
 mod frames;
 pub mod laws;
-mod live;
-mod member;
-mod outbox;
 mod scripts;
-mod sends;
 mod steps;
 #[cfg(test)]
 mod tests;
 mod unit_state;
-mod wish;
 
 pub use bundle::Bundle;
 pub use event::BundleEvent;
-pub use member::Member;
-pub use outbox::{BundleEnd, Sending, UnitCounts};
-pub use wish::UnitWish;
+pub use ppp_unit_parts::{BundleEnd, Member, Sending, UnitCounts, UnitWish, unit_wish};

@@ -7,19 +7,17 @@ ghost use Rattle.ppp_mark.specs.ScriptLog.{IsRunningJob};
 ghost use Rattle.ppp_mark.specs.Marks.{unmade_mark};
 ghost use Rattle.ppp_mark.specs.Scripts.{says_scripts};
 ghost use Rattle.ppp_mark.specs.Table.{IsInTable, stands_in};
-ghost use Rattle.ppp_mark.specs.declared.kind.TheConstants.{MADE};
 ghost use Rattle.ppp_bundle.specs.Closing.{outs, unmade};
-ghost use Rattle.ppp_bundle.specs.Member.{has_link, stay_of};
+ghost use Rattle.ppp_unit_parts.specs.Member.{has_link, stay_of};
 ghost use Rattle.ppp_bundle.specs.Replay.{LogSays, SaysSame, bundle_in, stay_in};
 ghost use Rattle.ppp_bundle.specs.ScriptParts.{marked, opened, over, shut};
 ghost use Rattle.ppp_bundle.specs.Sound.{Adds, Moves, is_open_in};
 
-use crate::live::Live;
-use crate::member::Member;
 use ppp_base::Unit;
 use ppp_hooks::HookDone;
 use ppp_mark::{Mark, ScriptLog};
 use ppp_outside::{HookArgs, Spawner};
+use ppp_unit_parts::{Live, Member};
 
 // A mark that says nothing of scripts.
 pub(crate) fn put<S: Spawner>(scripts: &mut ScriptLog<S>, mark: Mark)

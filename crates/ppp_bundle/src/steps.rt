@@ -4,28 +4,24 @@ ghost use Rattle.ppp_hooks.specs.HookCounts.{DoneCounts, MachineCounts};
 ghost use Rattle.ppp_mark.specs.Log.{room_of};
 ghost use Rattle.ppp_mark.specs.ScriptLog.{IsRunningJob};
 ghost use Rattle.ppp_bundle.specs.Closing.{connect_end, crowded_end, idle_end, looked};
-ghost use Rattle.ppp_bundle.specs.IpCalls.{called};
-ghost use Rattle.ppp_bundle.specs.Member.{member, stay_of, with_member, without};
+ghost use Rattle.ppp_unit_parts.specs.Member.{member, stay_of, with_member, without};
 ghost use Rattle.ppp_bundle.specs.ScriptParts.{marked};
 ghost use Rattle.ppp_bundle.specs.Sound.{Adds, Agrees, Goes, HasRoom, IsGoing, IsSound};
 ghost use Rattle.ppp_bundle.specs.State.{is_open, members_of};
-ghost use Rattle.ppp_bundle.specs.UnitPart.{MayEnter, begun, entered, left_of, made, script_over, ticked_unit};
-ghost use Rattle.ppp_bundle.specs.declared.outbox.TheConstants.{MOST_SENT};
+ghost use Rattle.ppp_bundle.specs.UnitPart.{MayEnter, entered, left_of, made, script_over, ticked_unit};
+ghost use Rattle.ppp_unit_parts.specs.declared.outbox.TheConstants.{MOST_SENT};
 ghost use Rattle.ppp_mark.specs.Marks.{in_mark};
 ghost use Rattle.ppp_secrets.specs.declared.secrets.SecretsPair.{SecretsPair};
 
-use crate::live::{IpCall, Live};
-use crate::member::Member;
-use crate::outbox::Ending;
 use crate::scripts::{end_script, put, unmake};
 use crate::unit_state::UnitCore;
-use crate::wish::UnitWish;
 use ppp_base::{Allow, CloseCause, LinkId, Mrru};
 use ppp_hooks::HookDone;
 use ppp_mark::Mark;
 use ppp_mp::Given;
 use ppp_outside::Spawner;
 use ppp_secrets::SecretsPair;
+use ppp_unit_parts::{Ending, IpCall, Live, Member, UnitWish};
 
 // The marks of a bundle that are too many.
 const MOST_MARKS_OF_A_BUNDLE: u32 = 900;

@@ -57,7 +57,9 @@ fn a_unit_makes_a_bundle_and_counts_what_it_drops(rt: HostRuntime) -> Result<(),
     assert_eq!(rt; unit.opened(), false);
     assert_eq!(rt; unit.openings(), 0);
     assert_eq!(rt; unit.bundles(), 1);
-    assert_eq!(rt; unit.member(0).is_none(), true);
+    assert_eq!(rt; unit.members().len(), 0);
+    assert_eq!(rt; unit.has_bundle(), true);
+    assert_eq!(rt; unit.mrru(), None);
     assert_eq!(rt; unit.running(), None);
     assert_eq!(rt; unit.ended_by(), None);
     assert_eq!(rt; unit.take_job().is_none(), true);

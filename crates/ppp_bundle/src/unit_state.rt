@@ -1,26 +1,21 @@
 ghost use Rattle.std.specs.Prelude.{◌≡◌, ◌+◌, ◌≤◌, ◌<◌, ◌^◌, ◌++◌, ◌∷◌, [], Bool, true, false, Some, None, IfSome, IsSome, List, ℕ, is_some, length, IsOk, OnOk, OnErr, IfErr, ◌↔◌, option_to_list};
 ghost use Rattle.ppp_base.specs.declared.hook_target.HookTarget.TheVariants.{Unit as OfUnit};
 ghost use Rattle.ppp_base.specs.declared.protocol.TheConstants.{IP};
-ghost use Rattle.ppp_base.specs.RingAfter.{one_more};
 ghost use Rattle.ppp_mark.specs.Log.{room_of};
-ghost use Rattle.ppp_mark.specs.ScriptLog.{IsRunningJob};
-ghost use Rattle.ppp_bundle.specs.Closing.{closed, closed_if, connect_end, crowded_end, end_of, idle_end, looked};
-ghost use Rattle.ppp_bundle.specs.Fits.{Fits};
-ghost use Rattle.ppp_bundle.specs.declared.outbox.TheConstants.{MOST_SENT};
-ghost use Rattle.ppp_bundle.specs.Frames.{brought, carried, gave, heard, passed, not_open, stranger, too_big, with_pass};
+ghost use Rattle.ppp_bundle.specs.Closing.{closed, closed_if, end_of};
+ghost use Rattle.ppp_unit_parts.specs.Fits.{Fits};
+ghost use Rattle.ppp_unit_parts.specs.declared.outbox.TheConstants.{MOST_SENT};
+ghost use Rattle.ppp_bundle.specs.Frames.{passed, with_pass};
 ghost use Rattle.ppp_bundle.specs.IpCalls.{called, finish_of, finished, followed, sends_all, turned, went_up_of};
-ghost use Rattle.ppp_bundle.specs.Member.{has_link, without};
 ghost use Rattle.ppp_bundle.specs.Replay.{LogSays, SaysSame};
 ghost use Rattle.ppp_bundle.specs.Sends.{sends};
-ghost use Rattle.ppp_bundle.specs.Sound.{Agrees, Goes, HasRoom, IsTurning, Moves, is_open_in, SomeSession};
-ghost use Rattle.ppp_bundle.specs.State.{is_open, is_up, members_of, most_to_peer};
-ghost use Rattle.ppp_bundle.specs.UnitPart.{begun, entered, framed, left_of, made, script_over, ticked_unit};
-ghost use Rattle.ppp_packet.specs.PacketOf.{packet_in};
+ghost use Rattle.ppp_bundle.specs.Sound.{Agrees, Goes, HasRoom, IsTurning, Moves, is_open_in};
+ghost use Rattle.ppp_unit_parts.specs.Live.{SomeSession};
+ghost use Rattle.ppp_bundle.specs.State.{is_open};
+ghost use Rattle.ppp_unit_parts.specs.Live.{is_up, most_to_peer};
+ghost use Rattle.ppp_bundle.specs.UnitPart.{made};
 
-use crate::live::{IpCall, Live, has_finished};
-use crate::outbox::{BundleEnd, Ending, GivenList, SentList, UnitCounts};
 use crate::scripts::{end_script, open_ip, put, shut_ip, unmake};
-use crate::wish::UnitWish;
 use ppp_base::{CloseCause, Datagram, Unit, protocol};
 use ppp_control::Packets;
 use ppp_hooks::HookDone;
@@ -30,6 +25,9 @@ use ppp_mp::Gather;
 use ppp_outside::Spawner;
 use ppp_packet::Packet;
 use ppp_secrets::SecretsPair;
+use ppp_unit_parts::{
+    BundleEnd, Ending, GivenList, IpCall, Live, SentList, UnitCounts, UnitWish, has_finished,
+};
 use std::marker::Model;
 
 // What a unit keeps.

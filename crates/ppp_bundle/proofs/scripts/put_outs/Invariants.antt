@@ -1,9 +1,9 @@
+use Rattle.std.specs.Prelude.{if◌then◌else◌}
 use Rattle.std.proofs.Common.{◌≡◌, ℕ, None, List, drop}
 use Rattle.ppp_mark.specs.ScriptLog.{ScriptLogState}
-use Rattle.ppp_bundle.specs.declared.member.Member.{Member}
+use Rattle.ppp_unit_parts.specs.declared.member.Member.{Member}
 use Rattle.ppp_bundle.specs.Closing.{outs}
-use Rattle.std.specs.Prelude.{if◌then◌else◌}
-use Rattle.ppp_bundle.specs.Member.{has_link}
+use Rattle.ppp_unit_parts.specs.Member.{has_link}
 use Rattle.ppp_bundle.specs.Replay.{LogSays, bundle_in, stay_in}
 use Rattle.ppp_bundle.specs.Sound.{Moves, is_open_in}
 use Rattle.ppp_bundle.proofs.scripts.put_outs.Given as goal

@@ -1,6 +1,6 @@
 use Rattle.std.proofs.Common.{sym, ◌∙◌}
 use Rattle.ppp_bundle.specs.Replay.{stay_in}
-use Rattle.ppp_bundle.proofs.MemberFacts.{all_gone}
+use Rattle.ppp_unit_parts.proofs.MemberFacts.{all_gone}
 use Rattle.ppp_bundle.proofs.scripts.unmake.Goals as goal
 
 pub returns-clause-stays : goal.returns-clause-stays

@@ -1,5 +1,5 @@
 use Rattle.std.proofs.Common.{ap, sym, ◌∙◌}
-use Rattle.ppp_bundle.specs.declared.live.IpCall.TheVariants.{ComesUp}
+use Rattle.ppp_unit_parts.specs.declared.live.IpCall.TheVariants.{ComesUp}
 use Rattle.ppp_bundle.specs.IpCalls.{called}
 use Rattle.ppp_bundle.specs.State.{UnitState}
 use Rattle.ppp_bundle.proofs.MemberSteps.{enters_first, enters_more}

@@ -1,0 +1,4 @@
+pub mod SessionFacts
+pub mod MemberFacts
+pub mod OutboxFacts
+pub mod SendFacts
