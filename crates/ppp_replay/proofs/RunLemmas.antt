@@ -2,16 +2,14 @@
 use Rattle.std.proofs.Common.{◌≡◌, ℕ, ◌+◌, ◌*◌, ◌<◌, ◌≤◌, ◌⊎◌, List, [], ◌∷◌, ◌++◌, length, get_or, refl, sym, ap, ◌∙◌, subst, arith, inl, inr, append_assoc, append-nil}
 use Rattle.std.specs.Prelude.{Option, Some, None, codes, Bool, true, false, IsTrue}
 use Rattle.std.specs.Bool.{OnFalse, OnTrue}
-use Rattle.std.specs.List.{flat_map}
 use Rattle.std.specs.Io.KnownBytes.{Consumes, IsAtEnd}
 use Rattle.std.proofs.lemmas.List.{length-append}
 use Rattle.ppp_outside.specs.Reading.{GivesAll}
 use Rattle.ppp_outside.specs.Sink.{SinkState}
 use Rattle.ppp_outside.specs.Source.{SourceState}
+use Rattle.ppp_trace.proofs.DecisionLemmas.{trace_is_short}
 use Rattle.ppp_trace.proofs.OnceLemmas.{no_fault}
-use Rattle.ppp_trace.proofs.StepLemmas.{step_is_short}
-use Rattle.ppp_trace.specs.BareTrace.{AreSteps, IsBareTrace, spelled}
-use Rattle.ppp_trace.specs.Steps.{word_of_step}
+use Rattle.ppp_trace.specs.BareTrace.{IsBareTrace}
 use Rattle.ppp_trace.specs.declared.TheConstants.{MOST_OCTETS}
 use Rattle.ppp_trace.specs.declared.fault.BadTrace.{BadTrace}
 use Rattle.ppp_trace.specs.declared.step.BareStep.{BareStep}
@@ -23,17 +21,6 @@ use Rattle.ppp_replay.specs.declared.run.Task.{Task}
 use Rattle.ppp_replay.specs.declared.run.Task.TheVariants as task
 
 -- ---- a trace is no other input
-
-steps_length : (steps : List BareStep) → AreSteps steps → length (flat_map (λ s. 10 ∷ word_of_step s) steps) ≤ 31 * length steps
-steps_length [] all = omega arith
-steps_length (s ∷ ss) all =
-    omega (arith, step_is_short s all.0, steps_length ss all.1, length-append (word_of_step s) (flat_map (λ s. 10 ∷ word_of_step s) ss))
-
-trace_is_short : (octets : List ℕ) (steps : List BareStep) → IsBareTrace octets steps → length octets ≤ 5 + 31 * length steps
-trace_is_short octets steps h = elim h.text [
-  | inl is ↦ rw is (omega (arith, steps_length steps h.bounded))
-  | inr is ↦ rw is (omega (arith, steps_length steps h.bounded, length-append (spelled steps) (10 ∷ [])))
-]
 
 pub trace_no_fault : (octets : List ℕ) (steps : List BareStep) (bad : BadTrace) → IsBareTrace octets steps → IsInputFault octets bad → ⊥
 trace_no_fault octets steps bad h fault = elim fault [

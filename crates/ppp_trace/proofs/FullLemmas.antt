@@ -20,7 +20,7 @@ use Rattle.ppp_trace.specs.FullSteps.{IsHex, IsHook, IsNoFullStep, OfLink, Spell
 use Rattle.ppp_trace.proofs.StepLemmas.{find_passes}
 
 -- what stands before the first space, and what behind it
-split_same : (a b xs ys : List ℕ) → is_free 32 a ≡ true → is_free 32 b ≡ true → a ++ 32 ∷ xs ≡ b ++ 32 ∷ ys → (a ≡ b) × (xs ≡ ys)
+pub split_same : (a b xs ys : List ℕ) → is_free 32 a ≡ true → is_free 32 b ≡ true → a ++ 32 ∷ xs ≡ b ++ 32 ∷ ys → (a ≡ b) × (xs ≡ ys)
 split_same [] [] xs ys free_a free_b e = (refl, ap (drop 1) e)
 split_same [] (d ∷ b) xs ys free_a free_b e = absurd (no_space d b (sym (ap (λ l. get_or l 0 0) e)) free_b)
   where

@@ -1,3 +1,4 @@
+pub mod DecisionLemmas
 pub mod FullLemmas
 pub mod NumberLemmas
 pub mod OnceLemmas

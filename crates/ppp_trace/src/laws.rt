@@ -1,5 +1,5 @@
 //! What holds of traces and their faults, whatever the octets.
-ghost use Rattle.std.specs.Prelude.{◌≡◌, List, ℕ};
+ghost use Rattle.std.specs.Prelude.{◌≡◌, ◌+◌, ◌*◌, ◌≤◌, List, ℕ, length};
 ghost use Rattle.ppp_trace.specs.declared.fault.BadTrace.{BadTrace};
 ghost use Rattle.ppp_trace.specs.declared.step.BareStep.{BareStep};
 ghost use Rattle.ppp_trace.specs.BareTrace.{IsBareTrace, IsNoTrace};
@@ -18,4 +18,14 @@ pub fn first_fault_is_one()
 /// Octets that have a first fault are no trace.
 pub fn fault_is_of_no_trace()
     ensures { (octets : List ℕ) (bad : BadTrace) → FirstFault octets bad → IsNoTrace octets }
+{}
+
+/// What is no trace has a first fault.
+pub fn no_trace_has_a_fault()
+    ensures { (octets : List ℕ) → IsNoTrace octets → (bad : BadTrace) × FirstFault octets bad }
+{}
+
+/// A trace is short: its limit of steps is one of octets too.
+pub fn trace_is_short()
+    ensures { (octets : List ℕ) (steps : List BareStep) → IsBareTrace octets steps → length octets ≤ 5 + 31 * length steps }
 {}
