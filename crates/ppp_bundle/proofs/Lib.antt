@@ -8,12 +8,15 @@ pub mod AskFacts
 pub mod ReplayFacts
 pub mod LogFacts
 pub mod CountFacts
+pub mod PieceMoments
+pub mod ViewMoments
 pub mod CallMoments
 pub mod CloseMoments
 pub mod MidMoments
 pub mod EventMoments
 pub mod StepMoments
 pub mod PassMoments
+pub mod UseMoments
 pub mod BringMoments
 pub mod LeaveMoments
 pub mod GoesFacts
