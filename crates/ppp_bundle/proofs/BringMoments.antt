@@ -146,10 +146,10 @@ brings_still : {S : Type 0} (terms : Terms) (past : List Moment) (secrets : Secr
     → asked_in terms (Brings secrets link protocol information ∷ past) ≡ [] → at ≡ passed_in terms (Brings secrets link protocol information ∷ past)
     → given ≡ u.given ++ given_by terms (Brings secrets link protocol information) past → counts ≡ counted (drops_by terms (Brings secrets link protocol information) past) u.counts
     → Calm (record u { live = Some (record l { passed_at = at }) })
-    → Does terms past (Brings secrets link protocol information ∷ []) u.counts (record u { live = Some (record l { passed_at = at }); given = given; counts = counts })
+    → Does terms past secrets (Brings secrets link protocol information ∷ []) u.counts (record u { live = Some (record l { passed_at = at }); given = given; counts = counts })
 brings_still {S = S} terms past secrets link protocol information old u l at given counts b sent nothing asked is gives drops calm =
     let v : UnitState S = record u { live = Some (record l { passed_at = at }); given = given; counts = counts } in
-    does_of terms (Brings secrets link protocol information ∷ []) past (Brings secrets link protocol information ∷ []) u.counts v refl
+    does_of terms (Brings secrets link protocol information ∷ []) past secrets (Brings secrets link protocol information ∷ []) u.counts v refl tt
     (inl (record {
       l = record l { passed_at = at };
       live = refl;
@@ -192,7 +192,7 @@ of_member terms past secrets link protocol information up ipcp ip e u f g = reco
 -- no member: what it brings is counted
 does_stranger : {S : Type 0} (terms : Terms) (past : List Moment) (secrets : SecretsPair) (link protocol : ℕ) (information : List ℕ) (old : GatherNow) (u : UnitState S) (l : Live)
     → Brought terms past secrets link protocol information [] old l u → Calm (record u { live = Some l }) → u.sent ≡ [] → u.given ≡ []
-    → is_member_in link past ≡ false → Does terms past (Brings secrets link protocol information ∷ []) u.counts (stranger (record u { live = Some l }))
+    → is_member_in link past ≡ false → Does terms past secrets (Brings secrets link protocol information ∷ []) u.counts (stranger (record u { live = Some l }))
 does_stranger terms past secrets link protocol information old u l b calm sent given e =
     brings_still terms past secrets link protocol information old u l l.passed_at u.given (counted (Some Stranger) u.counts) b sent given
     (rw e refl)
@@ -205,7 +205,7 @@ does_stranger terms past secrets link protocol information old u l b calm sent g
 does_nothing : {S : Type 0} (terms : Terms) (past : List Moment) (secrets : SecretsPair) (link protocol : ℕ) (information : List ℕ) (old : GatherNow) (u : UnitState S) (l : Live) (up ipcp : Bool)
     → Brought terms past secrets link protocol information [] old l u → Calm (record u { live = Some l }) → u.sent ≡ [] → u.given ≡ []
     → (b : OfMember terms past secrets link protocol information up ipcp false) → (if ipcp then to_hear (heard_with terms secrets past) (packet_in information) else []) ≡ []
-    → Does terms past (Brings secrets link protocol information ∷ []) u.counts (record u { live = Some l })
+    → Does terms past secrets (Brings secrets link protocol information ∷ []) u.counts (record u { live = Some l })
 does_nothing terms past secrets link protocol information old u l up ipcp here calm sent given b asks =
     brings_still terms past secrets link protocol information old u l l.passed_at u.given u.counts here sent given
     (b.asked ∙ asks)
@@ -218,7 +218,7 @@ does_nothing terms past secrets link protocol information old u l up ipcp here c
 does_give : {S : Type 0} (terms : Terms) (past : List Moment) (secrets : SecretsPair) (link protocol : ℕ) (information : List ℕ) (old : GatherNow) (u : UnitState S) (l : Live) (up : Bool)
     → Brought terms past secrets link protocol information [] old l u → Calm (record u { live = Some l }) → u.sent ≡ [] → u.given ≡ []
     → OfMember terms past secrets link protocol information up false true
-    → Does terms past (Brings secrets link protocol information ∷ []) u.counts
+    → Does terms past secrets (Brings secrets link protocol information ∷ []) u.counts
     (if up then with_pass (record u { live = Some l; given = u.given ++ information ∷ [] }) else not_open (record u { live = Some l }))
 does_give terms past secrets link protocol information old u l true here calm sent given b =
     brings_still terms past secrets link protocol information old u l u.time (u.given ++ information ∷ []) u.counts here sent given
@@ -249,7 +249,7 @@ around_is terms past secrets time gather left l r = ap₂ (λ (a : Allow) (most 
 does_hear : {S : Type 0} (terms : Terms) (past : List Moment) (secrets : SecretsPair) (link protocol : ℕ) (information : List ℕ) (old : GatherNow) (u : UnitState S) (l : Live) (up : Bool) (heard_packet : Option Packet)
     → Brought terms past secrets link protocol information [] old l u → Calm (record u { live = Some l }) → u.sent ≡ [] → u.given ≡ []
     → is_member_in link past ≡ true → packet_in information ≡ heard_packet → OfMember terms past secrets link protocol information up true false
-    → Does terms past (Brings secrets link protocol information ∷ []) u.counts (heard secrets heard_packet (record u { live = Some l }))
+    → Does terms past secrets (Brings secrets link protocol information ∷ []) u.counts (heard secrets heard_packet (record u { live = Some l }))
 does_hear terms past secrets link protocol information old u l up None here calm sent given e f b =
     does_nothing terms past secrets link protocol information old u l up true here calm sent given b (ap (λ (p : Option Packet). to_hear (heard_with terms secrets past) p) f)
 does_hear {S = S} terms past secrets link protocol information old u l up (Some p) here calm sent given e f b =
@@ -270,7 +270,7 @@ does_hear {S = S} terms past secrets link protocol information old u l up (Some 
     (λ none. absurd (member_came terms past u.time old [] l link here.reached e none))
     (λ h. refl) flows in
     let since : List Moment = Calls (call_made secrets u.time (Hears p) l) ∷ Brings secrets link protocol information ∷ [] in
-    does_of terms since past (Brings secrets link protocol information ∷ []) u.counts (called secrets (Hears p) w) refl
+    does_of terms since past secrets (Brings secrets link protocol information ∷ []) u.counts (called secrets (Hears p) w) refl tt
     (either_of terms (since ++ past) [] [] (called secrets (Hears p) w) d.stands) (calm_on secrets (Hears p) l w refl calm) d.flows
 
 other_than : (protocol one other : ℕ) → (protocol == one) ≡ true → (one == other) ≡ false → (protocol == other) ≡ false
@@ -280,7 +280,7 @@ other_than protocol one other e f = grind (arith, nat_tests)
 does_whole : {S : Type 0} (terms : Terms) (past : List Moment) (secrets : SecretsPair) (link protocol : ℕ) (information : List ℕ) (old : GatherNow) (u : UnitState S) (l : Live) (ipcp ip : Bool)
     → Brought terms past secrets link protocol information [] old l u → Calm (record u { live = Some l }) → u.sent ≡ [] → u.given ≡ []
     → is_member_in link past ≡ true → (protocol == IPCP) ≡ ipcp → (protocol == IP) ≡ ip
-    → Does terms past (Brings secrets link protocol information ∷ []) u.counts
+    → Does terms past secrets (Brings secrets link protocol information ∷ []) u.counts
     (if ipcp then heard secrets (packet_in information) (record u { live = Some l }) else (if ip then gave information (record u { live = Some l }) else record u { live = Some l }))
 does_whole terms past secrets link protocol information old u l true ip here calm sent given e g h =
     does_hear terms past secrets link protocol information old u l (is_up_in terms past) (packet_in information) here calm sent given e refl
@@ -296,7 +296,7 @@ does_whole terms past secrets link protocol information old u l false false here
 does_piece : {S : Type 0} (terms : Terms) (past : List Moment) (secrets : SecretsPair) (link protocol : ℕ) (information : List ℕ) (left : List (List ℕ)) (old : GatherNow) (u : UnitState S) (l : Live)
     → Brought terms past secrets link protocol information left old l u → Calm (record u { live = Some l }) → u.sent ≡ [] → u.given ≡ []
     → is_member_in link past ≡ true → (protocol == MULTILINK) ≡ true
-    → Does terms past (Brings secrets link protocol information ∷ []) u.counts (used_all secrets left (record u { live = Some l }))
+    → Does terms past secrets (Brings secrets link protocol information ∷ []) u.counts (used_all secrets left (record u { live = Some l }))
 does_piece {S = S} terms past secrets link protocol information left old u l here calm sent given e f =
     let w : UnitState S = record u { live = Some l } in
     let up : Bool = is_up_in terms past in
@@ -312,7 +312,7 @@ does_piece {S = S} terms past secrets link protocol information left old u l her
     } in
     let flows : Flows terms (Brings secrets link protocol information ∷ []) past [] u.counts w = flows_brings terms past secrets link protocol information left old l u w here sent given refl
     (no_more up u.given ∙ ap (λ (x : List (List ℕ)). u.given ++ x) (sym b.gives)) (sym (ap (λ (d : Option Drop). counted d u.counts) b.drops)) in
-    uses_all terms past secrets left (Brings secrets link protocol information ∷ []) (Brings secrets link protocol information ∷ []) u.counts w refl m
+    uses_all terms past secrets left (Brings secrets link protocol information ∷ []) (Brings secrets link protocol information ∷ []) u.counts w refl tt m
     (λ none. member_came terms past u.time old [] l link here.reached e none) calm flows
 
 brought_all : {S : Type 0} (terms : Terms) (past : List Moment) (secrets : SecretsPair) (link protocol : ℕ) (information : List ℕ) (left left' : List (List ℕ)) (old : GatherNow) (l : Live) (u : UnitState S) → left ≡ left'
@@ -323,7 +323,7 @@ brought_all terms past secrets link protocol information left left' old l u e b 
 does_frame_by : {S : Type 0} (terms : Terms) (past : List Moment) (secrets : SecretsPair) (link protocol : ℕ) (information : List ℕ) (there piece : Bool) (old : GatherNow) (g : Gathered) (u : UnitState S) (l : Live)
     → Brought terms past secrets link protocol information g.packets old l u → Calm (record u { live = Some l }) → u.sent ≡ [] → u.given ≡ []
     → is_member_in link past ≡ there → (protocol == MULTILINK) ≡ piece → ((there && piece) ≡ false → g.packets ≡ [])
-    → Does terms past (Brings secrets link protocol information ∷ []) u.counts
+    → Does terms past secrets (Brings secrets link protocol information ∷ []) u.counts
     (if there then (if piece then used_all secrets g.packets (record u { live = Some l }) else brought secrets protocol information (record u { live = Some l })) else stranger (record u { live = Some l }))
 does_frame_by terms past secrets link protocol information true true old g u l b calm sent given e f none = does_piece terms past secrets link protocol information g.packets old u l b calm sent given e f
 does_frame_by terms past secrets link protocol information true false old g u l b calm sent given e f none =
@@ -333,13 +333,13 @@ does_frame_by terms past secrets link protocol information false piece old g u l
 
 pub does_frame : {S : Type 0} (terms : Terms) (past : List Moment) (secrets : SecretsPair) (link protocol : ℕ) (information : List ℕ) (old : GatherNow) (g : Gathered) (u : UnitState S) → (b : Begins terms past old u)
     → u.gather ≡ g.gather → Gathers (if_multilink b.l.mrru (piece_of (has_link link b.l.members) (protocol == MULTILINK) link information)) old g → Calm u
-    → u.sent ≡ [] → u.given ≡ [] → Does terms past (Brings secrets link protocol information ∷ []) u.counts (framed secrets link protocol information g.packets u)
+    → u.sent ≡ [] → u.given ≡ [] → Does terms past secrets (Brings secrets link protocol information ∷ []) u.counts (framed secrets link protocol information g.packets u)
 does_frame {S = S} terms past secrets link protocol information old g u b kept asked calm sent given =
     let same : u ≡ record u { live = Some b.l } = ap (λ (o : Option Live). record u { live = o }) b.live in
     let there : is_member_in link past ≡ has_link link b.l.members = sym (ap is_some (b.reached.members link)) ∙ sym (has_is link b.l.members) in
     let gathers : GathersAll terms.mrru g.gather (Brings secrets link protocol information ∷ past) g.packets =
     gathers_brings terms.mrru b.l.mrru (has_link link b.l.members) (protocol == MULTILINK) secrets link protocol information past old g b.reached.mrru there refl asked b.reached.gathers in
-    subst (λ (v : UnitState S). Does terms past (Brings secrets link protocol information ∷ []) u.counts (framed secrets link protocol information g.packets v)) (sym same)
+    subst (λ (v : UnitState S). Does terms past secrets (Brings secrets link protocol information ∷ []) u.counts (framed secrets link protocol information g.packets v)) (sym same)
     (does_frame_by terms past secrets link protocol information (has_link link b.l.members) (protocol == MULTILINK) old g u b.l
     (record { reached = b.reached; gathers = subst (λ (n : GatherNow). GathersAll terms.mrru n (Brings secrets link protocol information ∷ past) g.packets) (sym kept) gathers; done = b.done; going = b.going; ended = b.ended; target = b.target })
     (subst (λ (v : UnitState S). Calm v) same calm) sent given there refl

@@ -33,7 +33,7 @@ use Rattle.ppp_mp.specs.Delivered.{nothing}
 -- one event of a unit whose bundle lives, at which the gatherer was what it was, and is now what it answered
 event_by : {S : Type 0} (terms : Terms) (past : List Moment) (secrets : SecretsPair) (event : BundleEvent S) (old : GatherNow) (g : Gathered) (u : UnitState S) → (b : Begins terms past old u) → Calm u
     → u.gather ≡ g.gather → Gathers (asked_of (Some b.l) event) old g → u.sent ≡ [] → u.given ≡ [] → MayCome event u → IsLinkNumber event
-    → Does terms past (own_of secrets event u) u.counts (after_event secrets event g.packets u)
+    → Does terms past secrets (own_of secrets event u) u.counts (after_event secrets event g.packets u)
 event_by terms past secrets (Make number maker wish mrru allow) old g u b calm kept asked sent given may is = absurd (let f : Some b.l ≡ None = sym b.live ∙ may.0 in cc)
 event_by terms past secrets (In link stay mru) old g u b calm kept asked sent given may is =
     let enters : MayEnter (Some b.l) link mru = subst (λ (o : Option Live). MayEnter o link mru) b.live may in
@@ -44,15 +44,15 @@ event_by terms past secrets (Out link stay) old g u b calm kept asked sent given
     does_leave terms past secrets link stay old g u b kept asked there calm sent given
 event_by terms past secrets (Frame link protocol information) old g u b calm kept asked sent given may is = does_frame terms past secrets link protocol information old g u b kept asked calm sent given
 event_by terms past secrets (Datagram datagram) old g u b calm kept asked sent given may is =
-    does_carry terms past datagram u (begins_mid terms past old u (sym (kept ∙ asked.gather)) b) calm sent given
+    does_carry terms past secrets datagram u (begins_mid terms past old u (sym (kept ∙ asked.gather)) b) calm sent given
 event_by terms past secrets (Tick now) old g u b calm kept asked sent given may is =
     does_tick terms past secrets now u (begins_mid terms past old u (sym (kept ∙ asked.gather)) b) sent given
 event_by terms past secrets (HookOver done) old g u b calm kept asked sent given may is =
-    does_over terms past done u (begins_mid terms past old u (sym (kept ∙ asked.gather)) b) calm sent given
+    does_over terms past secrets done u (begins_mid terms past old u (sym (kept ∙ asked.gather)) b) calm sent given
 
 does_event : {S : Type 0} (terms : Terms) (past : List Moment) (secrets : SecretsPair) (event : BundleEvent S) (old : GatherNow) (g : Gathered) (u : UnitState S) → Begins terms past old u → Calm u
     → u.gather ≡ g.gather → Gathers (asked_of u.live event) old g → u.sent ≡ [] → u.given ≡ [] → MayCome event u → IsLinkNumber event
-    → Does terms past (own_of secrets event u) u.counts (after_event secrets event g.packets u)
+    → Does terms past secrets (own_of secrets event u) u.counts (after_event secrets event g.packets u)
 does_event {S = S} terms past secrets event old g u b calm kept asked sent given may is =
     event_by terms past secrets event old g u b calm kept (subst (λ (o : Option Live). Gathers (asked_of {S = S} o event) old g) b.live asked) sent given may is
 
@@ -91,6 +91,7 @@ goes_on {S = S} terms past secrets event g u l live target lives gathers sent gi
       since = d.since;
       left = d.left;
       own = d.own_is ∙ own_same secrets event g u;
+      hears = d.hears;
       goes = step_ends terms (d.since ++ past) d.left v d.stands d.calm;
       sends = flows.sends;
       gives = flows.gives;

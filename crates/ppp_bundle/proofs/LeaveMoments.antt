@@ -89,19 +89,19 @@ reached_goes terms past link first others left time old gather l r done is gathe
 
 pub does_leave : {S : Type 0} (terms : Terms) (past : List Moment) (secrets : SecretsPair) (link stay : ℕ) (old : GatherNow) (g : Gathered) (u : UnitState S) → (b : Begins terms past old u)
     → u.gather ≡ g.gather → Gathers (if_multilink b.l.mrru (unless_last (without link b.l.members) (link_leaves link))) old g → stay_of link b.l.members ≡ Some stay → Calm u → u.sent ≡ [] → u.given ≡ []
-    → Does terms past (Goes link ∷ []) u.counts (left_of u.live secrets link stay g.packets u)
+    → Does terms past secrets (Goes link ∷ []) u.counts (left_of u.live secrets link stay g.packets u)
 does_leave {S = S} terms past secrets link stay old g u b kept asked there calm sent given = by_left (without link b.l.members) refl
   where
     nothing : u.given ≡ u.given ++ (if is_up_in terms past then [] else [])
     nothing = sym (append-nil u.given) ∙ ap (λ (x : List (List ℕ)). u.given ++ x) (nothing_of (is_up_in terms past))
 
-    by_left : (left : List Member) → without link b.l.members ≡ left → Does terms past (Goes link ∷ []) u.counts (left_of u.live secrets link stay g.packets u)
+    by_left : (left : List Member) → without link b.l.members ≡ left → Does terms past secrets (Goes link ∷ []) u.counts (left_of u.live secrets link stay g.packets u)
     by_left [] e =
         let v : UnitState S = record u { scripts = unmade b.l u.time u.scripts; live = None } in
         let none : (x : ℕ) → is_member_in x (Goes link ∷ past) ≡ false = λ x.
         ap (λ (o : Option ℕ). is_some (if link == x then None else o)) (sym (b.reached.members x)) ∙ ap is_some (sym (mru_without link x b.l.members) ∙ ap (λ (ms : List Member). mru_of x ms) e) in
-        subst (λ (x : UnitState S). Does terms past (Goes link ∷ []) u.counts x) (sym (left_is secrets link stay g.packets b.l u [] b.live e))
-        (does_of terms (Goes link ∷ []) past (Goes link ∷ []) u.counts v refl
+        subst (λ (x : UnitState S). Does terms past secrets (Goes link ∷ []) u.counts x) (sym (left_is secrets link stay g.packets b.l u [] b.live e))
+        (does_of terms (Goes link ∷ []) past secrets (Goes link ∷ []) u.counts v refl tt
         (inr (record {
           live = refl;
           how = subst (λ (x : Option BundleEnd). LivesOrEnds terms (Goes link ∷ past) [] v None x) (sym b.ended) (record { order = (b.done, b.reached.order); none = none; last = tt }, refl);
@@ -127,6 +127,6 @@ does_leave {S = S} terms past secrets link stay old g u b kept asked there calm 
           idle = sym (ap (λ (o : Option Live). idle_end u.time o) b.live) ∙ calm.idle;
           connect = sym (ap (λ (o : Option Live). connect_end u.time o) b.live) ∙ calm.connect;
         } in
-        subst (λ (x : UnitState S). Does terms past (Goes link ∷ []) u.counts x) (sym (left_is secrets link stay g.packets b.l u (first ∷ others) b.live e))
-        (uses_all terms past secrets g.packets (Goes link ∷ []) (Goes link ∷ []) u.counts w refl m came calm1
+        subst (λ (x : UnitState S). Does terms past secrets (Goes link ∷ []) u.counts x) (sym (left_is secrets link stay g.packets b.l u (first ∷ others) b.live e))
+        (uses_all terms past secrets g.packets (Goes link ∷ []) (Goes link ∷ []) u.counts w refl tt m came calm1
         (flows_quiet terms [] past (Goes link) u.counts u.time old [] b.l u w b.reached refl refl refl nothing refl (flows_start terms past u.time old [] b.l u b.reached sent given)))

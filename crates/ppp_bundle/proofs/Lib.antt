@@ -1,6 +1,7 @@
 pub mod EndFacts
 pub mod SoundFacts
 pub mod PlainFacts
+pub mod EnterFacts
 pub mod CallFacts
 pub mod MemberSteps
 pub mod ReadyFacts
@@ -24,3 +25,4 @@ pub mod StandFacts
 pub mod StandMoments
 pub mod StandSteps
 pub mod UnitFacts
+pub mod LawFacts

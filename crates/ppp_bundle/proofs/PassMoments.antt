@@ -7,6 +7,7 @@ use Rattle.ppp_base.specs.declared.protocol.TheConstants.{IP}
 use Rattle.ppp_mp.specs.StandsFor.{GatherNow}
 use Rattle.ppp_mp.specs.Schedule.{SendingNow}
 use Rattle.ppp_mp.specs.declared.members.MemberView.{MemberView}
+use Rattle.ppp_secrets.specs.declared.secrets.SecretsPair.{SecretsPair}
 use Rattle.ppp_unit_parts.specs.declared.live.Live.{Live}
 use Rattle.ppp_unit_parts.specs.declared.member.Member.{Member}
 use Rattle.ppp_unit_parts.specs.declared.outbox.Sending.{Sending}
@@ -83,10 +84,10 @@ nested_is : {T : Type 0} (a b up fits : Bool) (x y z : T) → a ≡ up → b ≡
 nested_is a b up fits x y z e f = rw (e, f) refl
 
 -- by whether IPCP is in Opened, and whether the peer takes so many octets
-carries_by : {S : Type 0} (terms : Terms) (past : List Moment) (datagram : List ℕ) (u : UnitState S) (l : Live) (up fits : Bool) → (m : Mid terms past [] [] (record u { live = Some l })) → m.l ≡ l → Calm (record u { live = Some l })
+carries_by : {S : Type 0} (terms : Terms) (past : List Moment) (secrets : SecretsPair) (datagram : List ℕ) (u : UnitState S) (l : Live) (up fits : Bool) → (m : Mid terms past [] [] (record u { live = Some l })) → m.l ≡ l → Calm (record u { live = Some l })
     → u.sent ≡ [] → u.given ≡ [] → is_up l ≡ up → nat_le (length datagram) (most_to_peer l) ≡ fits
-    → Does terms past (Carries datagram ∷ []) u.counts (if up then (if fits then with_pass (sends IP datagram (record u { live = Some l })) else too_big (record u { live = Some l })) else not_open (record u { live = Some l }))
-carries_by {S = S} terms past datagram u l up fits m same calm sent given e f = by_case up fits (sym was ∙ e) (ap (λ (n : ℕ). nat_le (length datagram) n) (sym most) ∙ f)
+    → Does terms past secrets (Carries datagram ∷ []) u.counts (if up then (if fits then with_pass (sends IP datagram (record u { live = Some l })) else too_big (record u { live = Some l })) else not_open (record u { live = Some l }))
+carries_by {S = S} terms past secrets datagram u l up fits m same calm sent given e f = by_case up fits (sym was ∙ e) (ap (λ (n : ℕ). nat_le (length datagram) n) (sym most) ∙ f)
   where
     r : Reached terms u.time u.gather l past []
     r = subst (λ (x : Live). Reached terms u.time u.gather x past []) same m.reached
@@ -105,11 +106,11 @@ carries_by {S = S} terms past datagram u l up fits m same calm sent given e f = 
 
     dropped : (up fits : Bool) → is_up_in terms past ≡ up → nat_le (length datagram) (most_in terms past) ≡ fits → (counts : UnitCounts)
         → (if up && fits then time_in terms past else passed_in terms past) ≡ passed_in terms past → (if up && fits then inner IP datagram ∷ [] else []) ≡ []
-        → counts ≡ counted (if up then (if fits then None else Some TooBig) else Some NotOpen) u.counts → Does terms past (Carries datagram ∷ []) u.counts (record w { counts = counts })
+        → counts ≡ counted (if up then (if fits then None else Some TooBig) else Some NotOpen) u.counts → Does terms past secrets (Carries datagram ∷ []) u.counts (record w { counts = counts })
     dropped up fits e f counts at none is =
         let v : UnitState S = record w { counts = counts } in
         let quiet : sends_by terms (Carries datagram) past ≡ [] = both_is (is_up_in terms past) (nat_le (length datagram) (most_in terms past)) up fits (inner IP datagram ∷ []) [] e f ∙ none in
-        does_of terms (Carries datagram ∷ []) past (Carries datagram ∷ []) u.counts v refl
+        does_of terms (Carries datagram ∷ []) past secrets (Carries datagram ∷ []) u.counts v refl tt
         (inl (record {
           l = l;
           live = refl;
@@ -126,14 +127,14 @@ carries_by {S = S} terms past datagram u l up fits m same calm sent given e f = 
         (flows_start terms past u.time u.gather [] l w r sent given))
 
     by_case : (up fits : Bool) → is_up_in terms past ≡ up → nat_le (length datagram) (most_in terms past) ≡ fits
-        → Does terms past (Carries datagram ∷ []) u.counts (if up then (if fits then with_pass (sends IP datagram w) else too_big w) else not_open w)
+        → Does terms past secrets (Carries datagram ∷ []) u.counts (if up then (if fits then with_pass (sends IP datagram w) else too_big w) else not_open w)
     by_case true true e f =
         let pieces : SendingNow = (left_by_sending l l.mrru IP datagram).pieces in
         let v : UnitState S = record u { sent = u.sent ++ sent_as l l.mrru IP datagram; live = Some (record l { pieces = pieces; passed_at = u.time }) } in
         let passes : sends_by terms (Carries datagram) past ≡ inner IP datagram ∷ [] = both_is (is_up_in terms past) (nat_le (length datagram) (most_in terms past)) true true (inner IP datagram ∷ []) [] e f in
         let is : with_pass (sends IP datagram w) ≡ v = ap (λ (x : Live). with_pass (record u { sent = u.sent ++ sent_as l l.mrru IP datagram; live = Some x })) (one_left l.mrru l IP datagram) in
-        subst (λ (x : UnitState S). Does terms past (Carries datagram ∷ []) u.counts x) (sym is)
-        (does_of terms (Carries datagram ∷ []) past (Carries datagram ∷ []) u.counts v refl
+        subst (λ (x : UnitState S). Does terms past secrets (Carries datagram ∷ []) u.counts x) (sym is)
+        (does_of terms (Carries datagram ∷ []) past secrets (Carries datagram ∷ []) u.counts v refl tt
         (inl (record {
           l = record l { pieces = pieces; passed_at = u.time };
           live = refl;
@@ -154,11 +155,11 @@ carries_by {S = S} terms past datagram u l up fits m same calm sent given e f = 
     by_case false true e f = dropped false true e f (not_open w).counts refl refl refl
     by_case false false e f = dropped false false e f (not_open w).counts refl refl refl
 
-pub does_carry : {S : Type 0} (terms : Terms) (past : List Moment) (datagram : List ℕ) (u : UnitState S) → (m : Mid terms past [] [] u) → Calm u → u.sent ≡ [] → u.given ≡ []
-    → Does terms past (Carries datagram ∷ []) u.counts (carried datagram u)
-does_carry {S = S} terms past datagram u m calm sent given =
+pub does_carry : {S : Type 0} (terms : Terms) (past : List Moment) (secrets : SecretsPair) (datagram : List ℕ) (u : UnitState S) → (m : Mid terms past [] [] u) → Calm u → u.sent ≡ [] → u.given ≡ []
+    → Does terms past secrets (Carries datagram ∷ []) u.counts (carried datagram u)
+does_carry {S = S} terms past secrets datagram u m calm sent given =
     let same : u ≡ record u { live = Some m.l } = ap (λ (o : Option Live). record u { live = o }) m.live in
-    subst (λ (v : UnitState S). Does terms past (Carries datagram ∷ []) u.counts (carried datagram v)) (sym same)
-    (carries_by terms past datagram u m.l (is_up m.l) (nat_le (length datagram) (most_to_peer m.l))
+    subst (λ (v : UnitState S). Does terms past secrets (Carries datagram ∷ []) u.counts (carried datagram v)) (sym same)
+    (carries_by terms past secrets datagram u m.l (is_up m.l) (nat_le (length datagram) (most_to_peer m.l))
     (record { l = m.l; live = refl; reached = m.reached; asked_is = m.asked_is; going = m.going; ended = m.ended; target = m.target }) refl
     (subst (λ (v : UnitState S). Calm v) same calm) sent given refl refl)

@@ -22,7 +22,7 @@ use Rattle.ppp_bundle.specs.Closing.{closed, closed_if, connect_end, connected_l
 use Rattle.ppp_bundle.specs.History.{Moment, Enters, Passes, Calls, Terms, asked_in, entered_in, is_up_in, rest_of, to_begin, entries_in}
 use Rattle.ppp_bundle.specs.IpCalls.{called}
 use Rattle.ppp_unit_parts.specs.Calls.{has_finished, ip_left, ip_tells, around_of}
-use Rattle.ppp_bundle.specs.Lives.{GathersAll, HasMember, Reached, own_in}
+use Rattle.ppp_bundle.specs.Lives.{HearsWith, GathersAll, HasMember, Reached, own_in}
 use Rattle.ppp_unit_parts.specs.Member.{member, views_of, with_member, has_link}
 use Rattle.ppp_bundle.specs.ScriptParts.{marked}
 use Rattle.ppp_bundle.specs.State.{UnitState}
@@ -37,18 +37,19 @@ use Rattle.ppp_bundle.proofs.ViewMoments.{mru_with}
 use Rattle.ppp_unit_parts.proofs.MemberFacts.{order_with}
 
 -- What an event does, before the marks are counted.
-pub record Does {S : Type 0} (terms : Terms) (past own : List Moment) (counts : UnitCounts) (u : UnitState S) : Type 0 where
+pub record Does {S : Type 0} (terms : Terms) (past : List Moment) (secrets : SecretsPair) (own : List Moment) (counts : UnitCounts) (u : UnitState S) : Type 0 where
   pub since : List Moment
   pub left : List (List ℕ)
   pub own_is : own_in since ≡ own
+  pub hears : HearsWith secrets since
   pub stands : Stands terms (since ++ past) left u
   pub calm : Calm u
   pub flows : Flows terms since past left counts u
 
 -- where nothing is left of what was gathered
-pub does_of : {S : Type 0} (terms : Terms) (since past own : List Moment) (counts : UnitCounts) (u : UnitState S) → own_in since ≡ own → Mid terms (since ++ past) [] [] u ⊎ Dead terms (since ++ past) [] u → Calm u
-    → Flows terms since past [] counts u → Does terms past own counts u
-does_of terms since past own counts u is stands calm flows = record { since = since; left = []; own_is = is; stands = stands_of terms (since ++ past) u stands; calm = calm; flows = flows }
+pub does_of : {S : Type 0} (terms : Terms) (since past : List Moment) (secrets : SecretsPair) (own : List Moment) (counts : UnitCounts) (u : UnitState S) → own_in since ≡ own → HearsWith secrets since → Mid terms (since ++ past) [] [] u ⊎ Dead terms (since ++ past) [] u → Calm u
+    → Flows terms since past [] counts u → Does terms past secrets own counts u
+does_of terms since past secrets own counts u is hears stands calm flows = record { since = since; left = []; own_is = is; hears = hears; stands = stands_of terms (since ++ past) u stands; calm = calm; flows = flows }
 
 -- A step at which the gatherer isn't asked begins with what it is.
 pub begins_mid : {S : Type 0} (terms : Terms) (past : List Moment) (gather : GatherNow) (u : UnitState S) → gather ≡ u.gather → Begins terms past gather u → Mid terms past [] [] u
@@ -144,15 +145,15 @@ entered_is {S = S} secrets link stay mru l u members live e =
     ap (λ (o : Option Live). entered_of o secrets link stay mru u) live ∙ ap (λ (ms : List Member). begun ms secrets (with_link link stay mru l u)) e
 
 second : {S : Type 0} (terms : Terms) (past : List Moment) (counts : UnitCounts) (secrets : SecretsPair) (link mru : ℕ) (c : IpcpCall) (u : UnitState S) → entered_in past ≡ None
-    → Did terms (Calls c ∷ Enters link mru ∷ []) past (by_itself comes_up ∷ []) [] counts u → Calm u → Does terms past (Enters link mru ∷ []) counts (called secrets ComesUp u)
+    → Did terms (Calls c ∷ Enters link mru ∷ []) past (by_itself comes_up ∷ []) [] counts u → Calm u → Does terms past secrets (Enters link mru ∷ []) counts (called secrets ComesUp u)
 second {S = S} terms past counts secrets link mru c u none did calm = by_case did.stands
   where
-    by_case : Mid terms (Calls c ∷ Enters link mru ∷ past) (by_itself comes_up ∷ []) [] u ⊎ Over terms (Calls c ∷ Enters link mru ∷ past) [] u → Does terms past (Enters link mru ∷ []) counts (called secrets ComesUp u)
+    by_case : Mid terms (Calls c ∷ Enters link mru ∷ past) (by_itself comes_up ∷ []) [] u ⊎ Over terms (Calls c ∷ Enters link mru ∷ past) [] u → Does terms past secrets (Enters link mru ∷ []) counts (called secrets ComesUp u)
     by_case (inl m) =
         let d = call_on terms (Calls c ∷ Enters link mru ∷ []) past counts secrets ComesUp (by_itself comes_up ∷ []) [] [] u m refl
         (λ f. absurd (let h : Some (record { link = link; mru = mru }) ≡ None = f in cc)) (λ h. refl) did.flows in
         let since : List Moment = Calls (call_made secrets u.time ComesUp m.l) ∷ Calls c ∷ Enters link mru ∷ [] in
-        does_of terms since past (Enters link mru ∷ []) counts (called secrets ComesUp u) refl
+        does_of terms since past secrets (Enters link mru ∷ []) counts (called secrets ComesUp u) refl tt
         (either_of terms (since ++ past) [] [] (called secrets ComesUp u) d.stands) (calm_on secrets ComesUp m.l u m.live calm) d.flows
     by_case (inr o) = absurd (let h : by_itself comes_up ∷ [] ≡ [] = sym (ap (λ (e : Option MemberView). rest_of (to_begin e)) none) ∙ o.ends.done in cc)
 
@@ -162,7 +163,7 @@ begun_before (Some v) some = refl
 
 pub does_enter : {S : Type 0} (terms : Terms) (past : List Moment) (secrets : SecretsPair) (link stay mru : ℕ) (old : GatherNow) (g : Gathered) (u : UnitState S) → (b : Begins terms past old u) → Comes b.l link mru
     → u.gather ≡ g.gather → Gathers (if_multilink b.l.mrru (link_joins link)) old g → Calm u
-    → u.sent ≡ [] → u.given ≡ [] → Does terms past (Enters link mru ∷ []) u.counts (entered secrets link stay mru u)
+    → u.sent ≡ [] → u.given ≡ [] → Does terms past secrets (Enters link mru ∷ []) u.counts (entered secrets link stay mru u)
 does_enter {S = S} terms past secrets link stay mru old g u b may kept asked calm sent given = by_members b.l.members refl
   where
     u1 : UnitState S
@@ -182,7 +183,7 @@ does_enter {S = S} terms past secrets link stay mru old g u b may kept asked cal
       connect = sym (ap (λ (o : Option Live). connect_end u.time o) b.live) ∙ calm.connect;
     }
 
-    by_members : (members : List Member) → b.l.members ≡ members → Does terms past (Enters link mru ∷ []) u.counts (entered secrets link stay mru u)
+    by_members : (members : List Member) → b.l.members ≡ members → Does terms past secrets (Enters link mru ∷ []) u.counts (entered secrets link stay mru u)
     by_members [] e =
         let none : entered_in past ≡ None = nobody_came terms.mrru b.l.members past b.reached.some e in
         let m1 : Mid terms (Enters link mru ∷ past) (by_itself opens ∷ by_itself comes_up ∷ []) [] u1 =
@@ -190,12 +191,12 @@ does_enter {S = S} terms past secrets link stay mru old g u b may kept asked cal
         let d = call_on terms (Enters link mru ∷ []) past u.counts secrets Opens (by_itself opens ∷ by_itself comes_up ∷ []) (by_itself comes_up ∷ []) [] u1 m1 refl
         (λ f. absurd (let h : Some (record { link = link; mru = mru }) ≡ None = f in cc))
         (λ h. absurd (let q : true ≡ false = sym h ∙ opens_quietly terms.wish.ip b.l.ipcp (around_of secrets m1.l) u.time (b.reached.initial none) in cc)) flows in
-        subst (λ (v : UnitState S). Does terms past (Enters link mru ∷ []) u.counts v) (sym (entered_is secrets link stay mru b.l u [] b.live e))
+        subst (λ (v : UnitState S). Does terms past secrets (Enters link mru ∷ []) u.counts v) (sym (entered_is secrets link stay mru b.l u [] b.live e))
         (second terms past u.counts secrets link mru (call_made secrets u1.time Opens m1.l) (called secrets Opens u1) none d (calm_on secrets Opens m1.l u1 refl calm1))
     by_members (x ∷ members) e =
         let came : entered_in past ≡ None → ⊥ = λ f. somebody_came terms.mrru x members past (subst (λ (ms : List Member). HasMember terms.mrru ms past) e b.reached.some) f in
-        subst (λ (v : UnitState S). Does terms past (Enters link mru ∷ []) u.counts v) (sym (entered_is secrets link stay mru b.l u (x ∷ members) b.live e))
-        (does_of terms (Enters link mru ∷ []) past (Enters link mru ∷ []) u.counts u1 refl
+        subst (λ (v : UnitState S). Does terms past secrets (Enters link mru ∷ []) u.counts v) (sym (entered_is secrets link stay mru b.l u (x ∷ members) b.live e))
+        (does_of terms (Enters link mru ∷ []) past secrets (Enters link mru ∷ []) u.counts u1 refl tt
         (inl (record { l = record b.l { members = with_member (member link stay mru) b.l.members }; live = refl; reached = reached1; asked_is = begun_before (entered_in past) came; going = b.going; ended = b.ended; target = b.target }))
         calm1 flows)
 
@@ -268,7 +269,7 @@ limits_flow {S = S} terms since past counts u flows =
     flows_keep terms since past [] counts v (connected_long v) (keeps_if (connect_end v.time v.live) v) (flows_keep terms since past [] counts u v (keeps_if (idle_end u.time u.live) u) flows)
 
 pub does_tick : {S : Type 0} (terms : Terms) (past : List Moment) (secrets : SecretsPair) (now : ℕ) (u : UnitState S) → (m : Mid terms past [] [] u)
-    → u.sent ≡ [] → u.given ≡ [] → Does terms past (Passes (timed now u).time ∷ []) u.counts (ticked_unit secrets now u)
+    → u.sent ≡ [] → u.given ≡ [] → Does terms past secrets (Passes (timed now u).time ∷ []) u.counts (ticked_unit secrets now u)
 does_tick {S = S} terms past secrets now u m sent given =
     let u1 : UnitState S = timed now u in
     let m1 : Mid terms (Passes u1.time ∷ past) (ticks ∷ []) [] u1 = record {
@@ -288,15 +289,15 @@ does_tick {S = S} terms past secrets now u m sent given =
     let v : UnitState S = called secrets Ticks u1 in
     let since : List Moment = Calls (call_made secrets u1.time Ticks m.l) ∷ Passes u1.time ∷ [] in
     let looks = limits_look terms (since ++ past) v (either_of terms (since ++ past) [] [] v d.stands) in
-    does_of terms since past (Passes u1.time ∷ []) u.counts (ticked_unit secrets now u) refl looks.stands looks.calm (limits_flow terms since past u.counts v d.flows)
+    does_of terms since past secrets (Passes u1.time ∷ []) u.counts (ticked_unit secrets now u) refl tt looks.stands looks.calm (limits_flow terms since past u.counts v d.flows)
 
 -- A SCRIPT'S END
 
-pub does_over : {S : Type 0} (terms : Terms) (past : List Moment) (done : DoneState S) (u : UnitState S) → (m : Mid terms past [] [] u) → Calm u
-    → u.sent ≡ [] → u.given ≡ [] → Does terms past [] u.counts (script_over done u)
-does_over {S = S} terms past done u m calm sent given =
+pub does_over : {S : Type 0} (terms : Terms) (past : List Moment) (secrets : SecretsPair) (done : DoneState S) (u : UnitState S) → (m : Mid terms past [] [] u) → Calm u
+    → u.sent ≡ [] → u.given ≡ [] → Does terms past secrets [] u.counts (script_over done u)
+does_over {S = S} terms past secrets done u m calm sent given =
     let flows = flows_start terms past u.time u.gather [] m.l u m.reached sent given in
-    does_of terms [] past [] u.counts (script_over done u) refl
+    does_of terms [] past secrets [] u.counts (script_over done u) refl tt
     (inl (record { l = m.l; live = m.live; reached = m.reached; asked_is = m.asked_is; going = m.going; ended = m.ended; target = m.target }))
     (record { idle = calm.idle; connect = calm.connect })
     (record { sends = flows.sends; gives = flows.gives; counts_are = flows.counts_are })

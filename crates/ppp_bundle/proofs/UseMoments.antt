@@ -28,7 +28,7 @@ use Rattle.ppp_bundle.specs.Closing.{closed_if, closed_of, crowded_end, looked}
 use Rattle.ppp_bundle.specs.Frames.{Inner, brought, gave, heard, inner_of, not_open, rejected, too_big, used, used_all, used_inner, used_of, with_pass}
 use Rattle.ppp_bundle.specs.History.{Moment, Calls, Drop, Gathered, Terms, BadInner, NotOpen, TooBig, asked_in, brought_by, calls_in, counted, counts_in, drops_by, entered_in, gathered_in, given_by, given_in, is_refused, is_up_in, left_out, most_in, passed_in, rejection_by, rejects_by, sends_by, time_in, to_hear, views_up_to}
 use Rattle.ppp_bundle.specs.IpCalls.{called}
-use Rattle.ppp_bundle.specs.Lives.{GathersAll, HasMember, LivesOrEnds, Reached, SendsSince, is_rejected, is_sent, own_in}
+use Rattle.ppp_bundle.specs.Lives.{GathersAll, HasMember, HearsWith, LivesOrEnds, Reached, SendsSince, is_rejected, is_sent, own_in}
 use Rattle.ppp_bundle.specs.Sends.{rejection}
 use Rattle.ppp_bundle.specs.State.{UnitState}
 use Rattle.ppp_bundle.proofs.CallMoments.{call_made, reached_sends, up_is}
@@ -76,9 +76,10 @@ reached_next terms past secrets packet left time gather l at r done e = record {
 -- ONE PACKET
 
 -- what happens by one packet, with these left
-pub record Uses {S : Type 0} (terms : Terms) (since past : List Moment) (left : List (List ℕ)) (counts : UnitCounts) (u : UnitState S) : Type 0 where
+pub record Uses {S : Type 0} (terms : Terms) (since past : List Moment) (secrets : SecretsPair) (left : List (List ℕ)) (counts : UnitCounts) (u : UnitState S) : Type 0 where
   pub more : List Moment
   pub own_is : own_in more ≡ own_in since
+  pub hears : HearsWith secrets since → HearsWith secrets more
   pub came : entered_in (more ++ past) ≡ None → ⊥
   pub stands : Mid terms (more ++ past) [] left u ⊎ Dead terms (more ++ past) left u
   pub calm : Calm u
@@ -98,10 +99,11 @@ next_still : {S : Type 0} (terms : Terms) (since past : List Moment) (secrets : 
     → at ≡ passed_in terms (Gathered secrets packet ∷ since ++ past)
     → given ≡ u.given ++ given_by terms (Gathered secrets packet) (since ++ past) → dropped ≡ counted (drops_by terms (Gathered secrets packet) (since ++ past)) u.counts
     → Calm (record u { live = Some (record l { passed_at = at }) })
-    → Uses terms since past left counts (record u { live = Some (record l { passed_at = at }); given = given; counts = dropped })
+    → Uses terms since past secrets left counts (record u { live = Some (record l { passed_at = at }); given = given; counts = dropped })
 next_still {S = S} terms since past secrets packet left counts l u at given dropped h asked none is gives drops calm = record {
   more = Gathered secrets packet ∷ since;
   own_is = refl;
+  hears = λ h. (refl, h);
   came = h.came;
   stands = inl (record {
     l = record l { passed_at = at };
@@ -128,7 +130,7 @@ no_more false given = sym (append-nil given)
 -- nothing is brought: it has no protocol field, or is too long
 next_dropped : {S : Type 0} (terms : Terms) (since past : List Moment) (secrets : SecretsPair) (packet : List ℕ) (left : List (List ℕ)) (counts : UnitCounts) (l : Live) (u : UnitState S) (why : Drop)
     → Using terms since past packet left counts l u → brought_by terms (Gathered secrets packet) (since ++ past) ≡ None → drops_by terms (Gathered secrets packet) (since ++ past) ≡ Some why
-    → Uses terms since past left counts (record u { live = Some l; counts = counted (Some why) u.counts })
+    → Uses terms since past secrets left counts (record u { live = Some l; counts = counted (Some why) u.counts })
 next_dropped terms since past secrets packet left counts l u why h e drops =
     next_still terms since past secrets packet left counts l u l.passed_at u.given (counted (Some why) u.counts) h
     (rw e refl)
@@ -168,7 +170,7 @@ none_refused (v ∷ views) i e = rw e refl
 next_nothing : {S : Type 0} (terms : Terms) (since past : List Moment) (secrets : SecretsPair) (packet : List ℕ) (left : List (List ℕ)) (counts : UnitCounts) (l : Live) (u : UnitState S) (i : Inner) (up ipcp lcp : Bool)
     → Using terms since past packet left counts l u → (b : OfPacket terms (since ++ past) secrets packet i up ipcp false lcp) → is_refused i.protocol ≡ false
     → (if ipcp then to_hear (around terms.allow secrets (most_in terms (since ++ past))) (packet_in i.information) else []) ≡ []
-    → Uses terms since past left counts (record u { live = Some l })
+    → Uses terms since past secrets left counts (record u { live = Some l })
 next_nothing terms since past secrets packet left counts l u i up ipcp lcp h b known asks =
     next_still terms since past secrets packet left counts l u l.passed_at u.given u.counts h
     (b.asked ∙ asks)
@@ -181,7 +183,7 @@ next_nothing terms since past secrets packet left counts l u i up ipcp lcp h b k
 -- a datagram of the peer's
 next_given : {S : Type 0} (terms : Terms) (since past : List Moment) (secrets : SecretsPair) (packet : List ℕ) (left : List (List ℕ)) (counts : UnitCounts) (l : Live) (u : UnitState S) (i : Inner) (up lcp : Bool)
     → Using terms since past packet left counts l u → OfPacket terms (since ++ past) secrets packet i up false true lcp
-    → Uses terms since past left counts
+    → Uses terms since past secrets left counts
     (if up then with_pass (record u { live = Some l; given = u.given ++ i.information ∷ [] }) else not_open (record u { live = Some l }))
 next_given terms since past secrets packet left counts l u i true lcp h b =
     next_still terms since past secrets packet left counts l u u.time (u.given ++ i.information ∷ []) u.counts h
@@ -203,7 +205,7 @@ next_given terms since past secrets packet left counts l u i false lcp h b =
 -- a packet that IPCP hears
 next_heard : {S : Type 0} (terms : Terms) (since past : List Moment) (secrets : SecretsPair) (packet : List ℕ) (left : List (List ℕ)) (counts : UnitCounts) (l : Live) (u : UnitState S) (i : Inner) (up lcp : Bool) (heard_packet : Option Packet)
     → Using terms since past packet left counts l u → packet_in i.information ≡ heard_packet → OfPacket terms (since ++ past) secrets packet i up true false lcp
-    → Uses terms since past left counts (heard secrets heard_packet (record u { live = Some l }))
+    → Uses terms since past secrets left counts (heard secrets heard_packet (record u { live = Some l }))
 next_heard terms since past secrets packet left counts l u i up lcp None h f b =
     next_nothing terms since past secrets packet left counts l u i up true lcp h b b.refused (ap (λ (p : Option Packet). to_hear (around terms.allow secrets (most_in terms (since ++ past))) p) f)
 next_heard {S = S} terms since past secrets packet left counts l u i up lcp (Some p) h f b =
@@ -226,6 +228,7 @@ next_heard {S = S} terms since past secrets packet left counts l u i up lcp (Som
     record {
       more = Calls (call_made secrets u.time (Hears p) l) ∷ Gathered secrets packet ∷ since;
       own_is = refl;
+      hears = λ h. (refl, h);
       came = h.came;
       stands = either_of terms (Calls (call_made secrets u.time (Hears p) l) ∷ Gathered secrets packet ∷ now) [] left (called secrets (Hears p) w) d.stands;
       calm = calm_on secrets (Hears p) l w refl h.calm;
@@ -255,7 +258,7 @@ sends_rejection terms since past (Some mrru) moment waits refused some quiet is 
 
 next_rejected : {S : Type 0} (terms : Terms) (since past : List Moment) (secrets : SecretsPair) (packet : List ℕ) (left : List (List ℕ)) (counts : UnitCounts) (l : Live) (u : UnitState S) (i : Inner) (up : Bool)
     → Using terms since past packet left counts l u → OfPacket terms (since ++ past) secrets packet i up false false false
-    → Uses terms since past left counts (rejected i.protocol i.information (record u { live = Some l }))
+    → Uses terms since past secrets left counts (rejected i.protocol i.information (record u { live = Some l }))
 next_rejected {S = S} terms since past secrets packet left counts l u i up h b =
     let now : List Moment = since ++ past in
     let is : rejection l.members i.protocol i.information ≡ rejects_by terms (Gathered secrets packet) now =
@@ -263,6 +266,7 @@ next_rejected {S = S} terms since past secrets packet left counts l u i up h b =
     record {
       more = Gathered secrets packet ∷ since;
       own_is = refl;
+      hears = λ h. (refl, h);
       came = h.came;
       stands = inl (record {
         l = l;
@@ -291,7 +295,7 @@ next_some : {S : Type 0} (terms : Terms) (since past : List Moment) (secrets : S
     → Using terms since past packet left counts l u → inner_of packet ≡ Some i → nat_lt (most_of_ours terms.mrru) (length i.information) ≡ false
     → (i.protocol == IPCP) ≡ ipcp → (i.protocol == IP) ≡ ip → (i.protocol == LCP) ≡ lcp
     → let w = record u { live = Some l } in
-    Uses terms since past left counts
+    Uses terms since past secrets left counts
     (if ipcp || ip then (if ipcp then heard secrets (packet_in i.information) w else (if ip then gave i.information w else w)) else (if lcp then w else rejected i.protocol i.information w))
 next_some terms since past secrets packet left counts l u i true ip lcp h e fits f g k =
     next_heard terms since past secrets packet left counts l u i (is_up_in terms (since ++ past)) lcp (packet_in i.information) h refl
@@ -307,7 +311,7 @@ next_some terms since past secrets packet left counts l u i false false false h 
     (of_packet terms (since ++ past) secrets packet i (is_up_in terms (since ++ past)) false false false e fits refl f g k)
 
 next_by : {S : Type 0} (terms : Terms) (since past : List Moment) (secrets : SecretsPair) (packet : List ℕ) (left : List (List ℕ)) (counts : UnitCounts) (l : Live) (u : UnitState S) (found : Option Inner)
-    → Using terms since past packet left counts l u → inner_of packet ≡ found → Uses terms since past left counts (used_inner secrets terms.mrru found (record u { live = Some l }))
+    → Using terms since past packet left counts l u → inner_of packet ≡ found → Uses terms since past secrets left counts (used_inner secrets terms.mrru found (record u { live = Some l }))
 next_by terms since past secrets packet left counts l u None h e =
     next_dropped terms since past secrets packet left counts l u BadInner h (rw e refl) (rw e refl)
 next_by {S = S} terms since past secrets packet left counts l u (Some i) h e = by_length (nat_lt (most_of_ours terms.mrru) (length i.information)) refl
@@ -316,7 +320,7 @@ next_by {S = S} terms since past secrets packet left counts l u (Some i) h e = b
     w = record u { live = Some l }
 
     by_length : (big : Bool) → nat_lt (most_of_ours terms.mrru) (length i.information) ≡ big
-        → Uses terms since past left counts
+        → Uses terms since past secrets left counts
         (if big then too_big w else if i.protocol == IPCP || i.protocol == IP then brought secrets i.protocol i.information w else if i.protocol == LCP then w else rejected i.protocol i.information w)
     by_length true f =
         let beyond : nat_le (length i.information) (most_of_ours terms.mrru) ≡ false = grind (arith, nat_tests) in
@@ -325,7 +329,7 @@ next_by {S = S} terms since past secrets packet left counts l u (Some i) h e = b
 
 pub use_one : {S : Type 0} (terms : Terms) (since past : List Moment) (secrets : SecretsPair) (packet : List ℕ) (left : List (List ℕ)) (counts : UnitCounts) (u : UnitState S)
     → Mid terms (since ++ past) [] (packet ∷ left) u → (entered_in (since ++ past) ≡ None → ⊥) → Calm u → Flows terms since past [] counts u
-    → Uses terms since past left counts (used secrets packet u)
+    → Uses terms since past secrets left counts (used secrets packet u)
 use_one {S = S} terms since past secrets packet left counts u m came calm flows =
     let l : Live = m.l in
     let same : u ≡ record u { live = Some l } = ap (λ (o : Option Live). record u { live = o }) m.live in
@@ -338,7 +342,7 @@ use_one {S = S} terms since past secrets packet left counts u m came calm flows 
     } in
     let is : used secrets packet u ≡ used_inner secrets terms.mrru (inner_of packet) (record u { live = Some l }) =
     ap (λ (v : UnitState S). used secrets packet v) same ∙ ap (λ (x : Option MrruPair). used_inner secrets x (inner_of packet) (record u { live = Some l })) m.reached.mrru in
-    subst (λ (v : UnitState S). Uses terms since past left counts v) (sym is) (next_by terms since past secrets packet left counts l u (inner_of packet) h refl)
+    subst (λ (v : UnitState S). Uses terms since past secrets left counts v) (sym is) (next_by terms since past secrets packet left counts l u (inner_of packet) h refl)
 
 -- ALL
 
@@ -373,29 +377,30 @@ ends_as terms past left u counts (Some e) h = record {
 }
 
 -- after one of them: those that are left are used, or dropped
-then_by : {S : Type 0} (terms : Terms) (past : List Moment) (secrets : SecretsPair) (packets : List (List ℕ)) (own more : List Moment) (counts : UnitCounts) (w : UnitState S) → own_in more ≡ own → (entered_in (more ++ past) ≡ None → ⊥) → Calm w → Flows terms more past [] counts w
-    → Mid terms (more ++ past) [] packets w ⊎ Dead terms (more ++ past) packets w → (Mid terms (more ++ past) [] packets w → Does terms past own counts (used_all secrets packets w)) → Does terms past own counts (used_all secrets packets w)
-then_by terms past secrets packets own more counts w is came calm flows (inl m) again = again m
-then_by {S = S} terms past secrets packets own more counts w is came calm flows (inr dead) again =
-    subst (λ (x : UnitState S). Does terms past own counts x) (sym (drops_all secrets packets w dead.live))
+then_by : {S : Type 0} (terms : Terms) (past : List Moment) (secrets : SecretsPair) (packets : List (List ℕ)) (own more : List Moment) (counts : UnitCounts) (w : UnitState S) → own_in more ≡ own → HearsWith secrets more → (entered_in (more ++ past) ≡ None → ⊥) → Calm w → Flows terms more past [] counts w
+    → Mid terms (more ++ past) [] packets w ⊎ Dead terms (more ++ past) packets w → (Mid terms (more ++ past) [] packets w → Does terms past secrets own counts (used_all secrets packets w)) → Does terms past secrets own counts (used_all secrets packets w)
+then_by terms past secrets packets own more counts w is told came calm flows (inl m) again = again m
+then_by {S = S} terms past secrets packets own more counts w is told came calm flows (inr dead) again =
+    subst (λ (x : UnitState S). Does terms past secrets own counts x) (sym (drops_all secrets packets w dead.live))
     (record {
       since = more;
       left = packets;
       own_is = is;
+      hears = told;
       stands = inr (record { live = dead.live; how = ends_as terms (more ++ past) packets w (left_out packets w.counts) w.ended dead.how });
       calm = record { idle = calm.idle; connect = calm.connect };
       flows = record { sends = flows.sends; gives = flows.gives; counts_are = ap (λ (c : UnitCounts). left_out packets c) flows.counts_are };
     })
 
-pub uses_all : {S : Type 0} (terms : Terms) (past : List Moment) (secrets : SecretsPair) (packets : List (List ℕ)) (own since : List Moment) (counts : UnitCounts) (u : UnitState S) → own_in since ≡ own
+pub uses_all : {S : Type 0} (terms : Terms) (past : List Moment) (secrets : SecretsPair) (packets : List (List ℕ)) (own since : List Moment) (counts : UnitCounts) (u : UnitState S) → own_in since ≡ own → HearsWith secrets since
     → Mid terms (since ++ past) [] packets u → (entered_in (since ++ past) ≡ None → ⊥) → Calm u → Flows terms since past [] counts u
-    → Does terms past own counts (used_all secrets packets u)
-uses_all terms past secrets [] own since counts u is m came calm flows = record { since = since; left = []; own_is = is; stands = inl (m, refl); calm = calm; flows = flows }
-uses_all {S = S} terms past secrets (packet ∷ packets) own since counts u is m came calm flows =
+    → Does terms past secrets own counts (used_all secrets packets u)
+uses_all terms past secrets [] own since counts u is told m came calm flows = record { since = since; left = []; own_is = is; hears = told; stands = inl (m, refl); calm = calm; flows = flows }
+uses_all {S = S} terms past secrets (packet ∷ packets) own since counts u is told m came calm flows =
     let one = use_one terms since past secrets packet packets counts u m came calm flows in
     let v : UnitState S = used secrets packet u in
     let w : UnitState S = looked v in
     let calm1 : Calm w = looked_calm v one.calm in
     let flows1 : Flows terms one.more past [] counts w = flows_keep terms one.more past [] counts v w (keeps_if (crowded_end v.scripts.log.past) v) one.flows in
-    then_by terms past secrets packets own one.more counts w (one.own_is ∙ is) one.came calm1 flows1 (looked_either terms (one.more ++ past) packets v one.stands)
-    (λ m1. uses_all terms past secrets packets own one.more counts w (one.own_is ∙ is) m1 one.came calm1 flows1)
+    then_by terms past secrets packets own one.more counts w (one.own_is ∙ is) (one.hears told) one.came calm1 flows1 (looked_either terms (one.more ++ past) packets v one.stands)
+    (λ m1. uses_all terms past secrets packets own one.more counts w (one.own_is ∙ is) (one.hears told) m1 one.came calm1 flows1)

@@ -1,6 +1,6 @@
 -- What has happened to a bundle since it was made, by looking back over it, the newest first. Nothing here says in which order a unit does its work: only
 -- what its IPCP and its gatherer stand for, what IPCP is asked just before each of its calls, and what is sent, given and dropped.
-use Rattle.std.specs.Prelude.{ℕ, zero, suc, ◌*◌, ◌-◌, ◌<◌, ◌≤◌, ◌≡◌, ◌==◌, ◌&&◌, ◌||◌, ⊤, min, nat_le, nat_lt, not, Bool, true, false, Option, None, Some, is_some, List, [], ◌∷◌, ◌++◌, length, if◌then◌else◌, take}
+use Rattle.std.specs.Prelude.{ℕ, zero, suc, ◌*◌, ◌-◌, ◌<◌, ◌≤◌, ◌≡◌, ◌==◌, ◌&&◌, ◌||◌, ◌⊎◌, ⊤, min, nat_le, nat_lt, not, Bool, true, false, Option, None, Some, is_some, List, [], ◌∷◌, ◌++◌, length, if◌then◌else◌, take}
 use Rattle.ppp_base.specs.declared.allow.Allow.{Allow}
 use Rattle.ppp_base.specs.declared.posts.CloseCause.{CloseCause}
 use Rattle.ppp_base.specs.declared.posts.CloseCause.TheVariants.{Idle, ConnectTime, IpcpFailed, EndedByPeer, TooManyChanges}
@@ -201,6 +201,11 @@ given_by terms m past = if is_up_in terms past then datagram_of (brought_by term
 abbrev pub given_in : Terms → List Moment → List (List ℕ)
 given_in terms [] = []
 given_in terms (m ∷ past) = given_in terms past ++ given_by terms m past
+
+-- A datagram came at one of these moments: in a frame of a link that was a member then, or in a packet that was gathered.
+abbrev pub CameIn : Terms → List Moment → (datagram : List ℕ) → Type 0
+CameIn terms [] datagram = ⊥
+CameIn terms (m ∷ past) datagram = (brought_by terms m past ≡ Some (inner IP datagram)) ⊎ CameIn terms past datagram
 
 -- the packets that a moment sends to the peer: IPCP's, and a datagram that passes
 abbrev pub packets_of : List Packet → List Inner

@@ -137,6 +137,12 @@ own_in (Gathered secrets packet ∷ past) = own_in past
 own_in (Calls call ∷ past) = own_in past
 own_in (m ∷ past) = m ∷ own_in past
 
+-- What is gathered at moments is heard with these secrets.
+abbrev pub HearsWith : SecretsPair → List Moment → Type 0
+HearsWith secrets [] = ⊤
+HearsWith secrets (Gathered other packet ∷ past) = (other ≡ secrets) × HearsWith secrets past
+HearsWith secrets (_ ∷ past) = HearsWith secrets past
+
 -- What a multilink bundle sends at moments: the pieces of its cuts that follow those which it sent before, each with its header, by their numbers without gaps;
 -- and besides them what links are to reject.
 pub record SendsPieces (terms : Terms) (since past : List Moment) (waits : List Sending) : Type 0 where
@@ -160,6 +166,7 @@ pub record GoesOn {S : Type 0} (terms : Terms) (past : List Moment) (secrets : S
   pub since : List Moment
   pub left : List (List ℕ)
   pub own : own_in since ≡ own_of secrets event old
+  pub hears : HearsWith secrets since
   pub goes : LivesOrEnds terms (since ++ past) left new new.live new.ended
   pub sends : SendsSince terms terms.mrru since past new.sent
   pub gives : given_in terms past ++ new.given ≡ given_in terms (since ++ past)
