@@ -12,10 +12,11 @@ use Rattle.ppp_unit_parts.specs.declared.outbox.Sending.{Sending}
 use Rattle.ppp_unit_parts.specs.Fits.{Fits}
 use Rattle.ppp_bundle.specs.IpCalls.{sends_all}
 use Rattle.ppp_unit_parts.specs.Member.{AreInOrder}
-use Rattle.ppp_unit_parts.specs.Pieces.{all_sent, left_by_all, left_by_sending, sent_as, whole_on}
+use Rattle.ppp_unit_parts.specs.Pieces.{all_sent, left_by_all, left_by_sending, sent_as}
 use Rattle.ppp_bundle.specs.Sound.{Agrees, IsTurning}
 use Rattle.ppp_bundle.specs.State.{UnitState}
 use Rattle.ppp_unit_parts.specs.Live.{most_of, most_to_peer, mru_of_first}
+use Rattle.ppp_bundle.specs.History.{within}
 
 pub all_sent_is : {S : Type 0} (packets : List Packet) (u : UnitState S) (l : Live) (sent : List Sending)
     → sends_all packets (record u { live = Some l; sent = sent }) ≡ record u { live = Some (left_by_all l packets); sent = all_sent l packets sent }
@@ -39,31 +40,6 @@ all_left [] l = refl
 all_left (p ∷ packets) l =
     let l1 : Live = left_by_sending l l.mrru IPCP (laid_packet p) in
     all_left packets l1 ∙ ap (λ (x : Live). record x { pieces = (left_by_all l1 packets).pieces }) (one_left l.mrru l IPCP (laid_packet p))
-
--- of a plain bundle nothing changes
-plain_one : (m : Option MrruPair) (l : Live) (protocol : ℕ) (information : List ℕ) → m ≡ None → left_by_sending l m protocol information ≡ l
-plain_one None l protocol information e = refl
-plain_one (Some mrru) l protocol information e = absurd (let f : Some mrru ≡ None = e in cc)
-
-plain_whole : (m : Option MrruPair) (l : Live) (protocol : ℕ) (information : List ℕ) → m ≡ None → sent_as l m protocol information ≡ whole_on l.members protocol information
-plain_whole None l protocol information e = refl
-plain_whole (Some mrru) l protocol information e = absurd (let f : Some mrru ≡ None = e in cc)
-
-pub plain_left : (packets : List Packet) (l : Live) → l.mrru ≡ None → left_by_all l packets ≡ l
-plain_left [] l e = refl
-plain_left (p ∷ packets) l e = ap (λ (x : Live). left_by_all x packets) (plain_one l.mrru l IPCP (laid_packet p) e) ∙ plain_left packets l e
-
--- what is sent on the one member
-abbrev pub whole_all : List Member → List Packet → List Sending → List Sending
-whole_all members [] sent = sent
-whole_all members (p ∷ packets) sent = whole_all members packets (sent ++ whole_on members IPCP (laid_packet p))
-
-pub plain_sent : (packets : List Packet) (l : Live) (sent : List Sending) → l.mrru ≡ None → all_sent l packets sent ≡ whole_all l.members packets sent
-plain_sent [] l sent e = refl
-plain_sent (p ∷ packets) l sent e =
-    ap (λ (x : Live). all_sent x packets (sent ++ sent_as l l.mrru IPCP (laid_packet p))) (plain_one l.mrru l IPCP (laid_packet p) e)
-    ∙ ap (λ (x : List Sending). all_sent l packets (sent ++ x)) (plain_whole l.mrru l IPCP (laid_packet p) e)
-    ∙ plain_sent packets l (sent ++ whole_on l.members IPCP (laid_packet p)) e
 
 -- FACTS
 

@@ -1,8 +1,7 @@
--- What a call of IPCP adds to what has happened to a plain bundle.
-use Rattle.std.proofs.Common.{◌≡◌, ℕ, Bool, true, false, Option, None, Some, List, [], ◌∷◌, ◌++◌, refl, ap, sym, ◌∙◌, append_assoc, append-nil}
-use Rattle.std.specs.Prelude.{◌==◌, ◌&&◌, ◌||◌, not, option_to_list, if◌then◌else◌}
+-- What a call of IPCP adds to what has happened to a bundle.
+use Rattle.std.proofs.Common.{◌≡◌, ℕ, Bool, true, false, Option, None, Some, List, [], ◌∷◌, refl, ap, sym, ◌∙◌, subst}
+use Rattle.std.specs.Prelude.{◌==◌, ◌&&◌, ◌||◌, not, if◌then◌else◌}
 use Rattle.ppp_base.specs.Mrru.{MrruPair}
-use Rattle.ppp_base.specs.declared.protocol.TheConstants.{IPCP}
 use Rattle.ppp_control.specs.declared.negotiation.StepOut.{StepOut}
 use Rattle.ppp_control.specs.Rules.{Call}
 use Rattle.ppp_ipcp.specs.declared.ipcp.Ipcp.{Ipcp}
@@ -12,26 +11,24 @@ use Rattle.ppp_ipcp.specs.Session.{IpcpCall, StandsFor as IpcpStandsFor, called 
 use Rattle.ppp_mark.specs.ScriptLog.{ScriptLogState}
 use Rattle.ppp_mp.specs.StandsFor.{GatherNow}
 use Rattle.ppp_mp.specs.Schedule.{SendingNow}
-use Rattle.ppp_mp.specs.declared.members.MemberView.{MemberView}
 use Rattle.ppp_outside.specs.declared.hook_words.HookArgs.{HookArgs}
-use Rattle.ppp_packet.specs.declared.packet.Packet.{Packet}
-use Rattle.ppp_packet.specs.PacketOf.{laid_packet}
 use Rattle.ppp_secrets.specs.declared.secrets.SecretsPair.{SecretsPair}
 use Rattle.ppp_unit_parts.specs.declared.live.IpCall.{IpCall}
 use Rattle.ppp_unit_parts.specs.declared.live.Live.{Live}
 use Rattle.ppp_unit_parts.specs.declared.member.Member.{Member}
-use Rattle.ppp_unit_parts.specs.declared.outbox.Sending.{Sending}
 use Rattle.ppp_unit_parts.specs.declared.wish.UnitWish.{UnitWish}
-use Rattle.ppp_bundle.specs.History.{Moment, Calls, Terms, asked_in, by_peer_after, calls_in, entered_in, is_up_after, is_up_in, packets_of, was_up_after, whole_by}
+use Rattle.ppp_bundle.specs.History.{Moment, Calls, Terms, asked_in, by_peer_after, calls_in, entered_in, is_up_after, is_up_in, was_up_after}
 use Rattle.ppp_bundle.specs.IpCalls.{finished, followed, turned}
 use Rattle.ppp_unit_parts.specs.Calls.{args_of, around_of, call_of, has_finished, ip_left, is_rtr, live_left, live_tells, or_none}
 use Rattle.ppp_bundle.specs.Lives.{CutsAll, GathersAll, HasMember, Reached}
-use Rattle.ppp_unit_parts.specs.Member.{views_of}
 use Rattle.ppp_bundle.specs.ScriptParts.{opened, shut}
-use Rattle.ppp_unit_parts.specs.Pieces.{all_sent, left_by_all, left_by_sending, sending, sent_as, whole_on}
+use Rattle.ppp_unit_parts.specs.Pieces.{all_sent, left_by_all}
 use Rattle.ppp_bundle.specs.State.{UnitState}
 use Rattle.ppp_unit_parts.specs.Live.{is_up}
-use Rattle.ppp_bundle.proofs.CallFacts.{all_left, all_sent_is, plain_left, whole_all}
+use Rattle.ppp_bundle.proofs.CallFacts.{all_left, all_sent_is}
+use Rattle.ppp_bundle.proofs.PieceMoments.{Sends, cuts_then, left_is}
+use Rattle.ppp_bundle.proofs.ViewMoments.{views_are}
+use Rattle.ppp_unit_parts.proofs.MemberFacts.{are_members}
 use Rattle.ppp_unit_parts.proofs.SessionFacts.{exact}
 
 -- two tests
@@ -55,34 +52,6 @@ up_is terms i calls stands = ap (λ (x : Ipcp). x.core.fsm.state == 9) stands.se
 was_up : (wish : UnitWish) (calls : List IpcpCall) → is_up_after wish calls ≡ true → was_up_after wish calls ≡ true
 was_up wish [] e = absurd (let f : false ≡ true = e in cc)
 was_up wish (c ∷ calls) e = or_of (is_up_after wish (c ∷ calls)) (was_up_after wish calls) e
-
-pub one_sent : {S : Type 0} (m : Option MrruPair) (l : Live) (protocol : ℕ) (information : List ℕ) (u : UnitState S) → m ≡ None
-    → record u { sent = u.sent ++ sent_as l m protocol information; live = Some (left_by_sending l m protocol information) } ≡ record u { sent = u.sent ++ whole_on l.members protocol information; live = Some l }
-one_sent None l protocol information u e = refl
-one_sent (Some mrru) l protocol information u e = absurd (let f : Some mrru ≡ None = e in cc)
-
-abbrev pub head_link : List MemberView → ℕ
-head_link [] = 0
-head_link (v ∷ views) = v.link
-
-sent_none : (packets : List Packet) (sent : List Sending) → whole_all [] packets sent ≡ sent ++ []
-sent_none [] sent = sym (append-nil sent)
-sent_none (p ∷ packets) sent = sent_none packets (sent ++ []) ∙ ap (λ (x : List Sending). x ++ []) (append-nil sent)
-
-sent_one : (m : Member) (members : List Member) (v : MemberView) (packets : List Packet) (sent : List Sending) → m.link ≡ v.link
-    → whole_all (m ∷ members) packets sent ≡ sent ++ whole_by (Some v) (packets_of packets)
-sent_one m members v [] sent e = sym (append-nil sent)
-sent_one m members v (p ∷ packets) sent e =
-    sent_one m members v packets (sent ++ sending m.link IPCP (laid_packet p) ∷ []) e
-    ∙ append_assoc sent (sending m.link IPCP (laid_packet p) ∷ []) (whole_by (Some v) (packets_of packets))
-    ∙ ap (λ (link : ℕ). sent ++ sending link IPCP (laid_packet p) ∷ whole_by (Some v) (packets_of packets)) e
-
-pub sent_all_is : (members : List Member) (entered : Option MemberView) (packets : List Packet) (sent : List Sending) → views_of members ≡ option_to_list entered
-    → whole_all members packets sent ≡ sent ++ whole_by entered (packets_of packets)
-sent_all_is [] None packets sent e = sent_none packets sent
-sent_all_is [] (Some v) packets sent e = absurd (let f : [] ≡ v ∷ [] = e in cc)
-sent_all_is (m ∷ members) None packets sent e = absurd (let f : record { link = m.link; mru = m.mru } ∷ views_of members ≡ [] = e in cc)
-sent_all_is (m ∷ members) (Some v) packets sent e = sent_one m members v packets sent (ap head_link e)
 
 -- IP opens or closes
 abbrev pub at_turn : {T : Type 0} → Bool → Bool → T → T → T
@@ -158,28 +127,37 @@ at_is was is before up time old kept e f g = turned_at was is time old ∙ ap (�
 peer_is : (told ever up up' rtr : Bool) → told ≡ ever → up ≡ up' → (told || (up && rtr)) ≡ ((up' && rtr) || ever)
 peer_is told ever up up' rtr e f = ap (λ (b : Bool). b || (up && rtr)) e ∙ ap (λ (b : Bool). ever || (b && rtr)) f ∙ or_swap ever (up' && rtr)
 
-gathers_call : (m : Option MrruPair) (gather : GatherNow) (c : IpcpCall) (past : List Moment) → GathersAll m gather past → GathersAll m gather (Calls c ∷ past)
-gathers_call None gather c past g = g
-gathers_call (Some mrru) gather c past g = g
+gathers_call : (m : Option MrruPair) (gather : GatherNow) (c : IpcpCall) (past : List Moment) (left : List (List ℕ)) → GathersAll m gather past left → GathersAll m gather (Calls c ∷ past) left
+gathers_call None gather c past left g = g
+gathers_call (Some mrru) gather c past left g = g
 
 some_call : (m : Option MrruPair) (members : List Member) (c : IpcpCall) (past : List Moment) → HasMember m members past → HasMember m members (Calls c ∷ past)
 some_call None members c past h = h
 some_call (Some mrru) members c past h = h
 
-cuts_call : (terms : Terms) (m : Option MrruPair) (pieces pieces' : SendingNow) (c : IpcpCall) (past : List Moment) → m ≡ None → pieces' ≡ pieces → CutsAll terms m pieces past → CutsAll terms m pieces' (Calls c ∷ past)
-cuts_call terms None pieces pieces' c past e same h = same ∙ h
-cuts_call terms (Some mrru) pieces pieces' c past e same h = absurd (let f : Some mrru ≡ None = e in cc)
+-- what is known of a bundle that was reached, as it sends
+pub reached_sends : (terms : Terms) (past : List Moment) (time : ℕ) (gather : GatherNow) (left : List (List ℕ)) (l : Live) → Reached terms time gather l past left → Sends terms.mrru l past
+reached_sends terms past time gather left l r = record {
+  mrru = r.mrru;
+  some = r.some;
+  views = views_are l.members past r.in_order r.members;
+  lawful = are_members 0 l.members r.in_order;
+}
+
+-- a call changes nothing of it
+pub sends_left : (terms : Terms) (past : List Moment) (secrets : SecretsPair) (time : ℕ) (call : IpCall) (l : Live) → Sends terms.mrru l past → Sends terms.mrru (live_left secrets time call l) past
+sends_left terms past secrets time call l s = record { mrru = s.mrru; some = s.some; views = s.views; lawful = s.lawful }
 
 -- the bundle after a call and what it sends
 abbrev pub live_sent : SecretsPair → ℕ → IpCall → Live → Live
 live_sent secrets time call l =
     let l1 = live_left secrets time call l in record l1 { pieces = (left_by_all l1 (live_tells secrets time call l).packets).pieces }
 
-pub reached_call : (terms : Terms) (past : List Moment) (secrets : SecretsPair) (call : IpCall) (rest : List (Call Around)) (time : ℕ) (gather : GatherNow) (l : Live)
-    → terms.mrru ≡ None → Reached terms time gather l past → asked_in terms past ≡ call_of (around_of secrets l) call ∷ rest
+pub reached_call : (terms : Terms) (past : List Moment) (secrets : SecretsPair) (call : IpCall) (rest : List (Call Around)) (time : ℕ) (gather : GatherNow) (left : List (List ℕ)) (l : Live)
+    → Reached terms time gather l past left → asked_in terms past ≡ call_of (around_of secrets l) call ∷ rest
     → (entered_in past ≡ None → ip_left (around_of secrets l) time call l.ipcp ≡ session_after terms.wish.ip [])
-    → Reached terms time gather (live_turned (is_up l) (is_up (live_left secrets time call l)) time (live_sent secrets time call l)) (Calls (call_made secrets time call l) ∷ past)
-reached_call terms past secrets call rest time gather l plain r asked quiet =
+    → Reached terms time gather (live_turned (is_up l) (is_up (live_left secrets time call l)) time (live_sent secrets time call l)) (Calls (call_made secrets time call l) ∷ past) left
+reached_call terms past secrets call rest time gather left l r asked quiet =
     let c : IpcpCall = call_made secrets time call l in
     let stands = exact (around_of secrets l) time call l.ipcp terms.wish.ip (calls_in past) r.ipcp in
     let was = up_is terms l.ipcp (calls_in past) r.ipcp in
@@ -187,10 +165,11 @@ reached_call terms past secrets call rest time gather l plain r asked quiet =
     record {
       order = (record { rest = rest; asked = asked; now = r.time_is }, r.order);
       ipcp = stands;
-      gathers = gathers_call terms.mrru gather c past r.gathers;
-      cuts = cuts_call terms terms.mrru l.pieces _ c past plain
-          (ap (λ (x : Live). x.pieces) (plain_left (live_tells secrets time call l).packets (live_left secrets time call l) (r.mrru ∙ plain))) r.cuts;
+      gathers = gathers_call terms.mrru gather c past left r.gathers;
+      cuts = subst (λ (n : SendingNow). CutsAll terms terms.mrru n (Calls c ∷ past)) (sym (ap (λ (x : Live). x.pieces) (left_is (live_tells secrets time call l).packets (live_left secrets time call l))))
+          (cuts_then terms past terms.mrru (Calls c) (live_left secrets time call l) (sends_left terms past secrets time call l (reached_sends terms past time gather left l r)) r.cuts);
       members = r.members;
+      in_order = r.in_order;
       some = some_call terms.mrru l.members c past r.some;
       initial = quiet;
       time_is = r.time_is;

@@ -2,7 +2,6 @@
 use Rattle.std.proofs.Common.{◌≡◌, ℕ, Bool, true, false, cond, Option, None, Some, List, [], ◌∷◌, ◌++◌, refl, ap, sym, subst, ◌∙◌}
 use Rattle.std.specs.Prelude.{◌||◌}
 use Rattle.std.specs.List.{list_any}
-use Rattle.ppp_base.specs.Mrru.{MrruPair}
 use Rattle.ppp_base.specs.declared.hook_target.HookTarget.{HookTarget}
 use Rattle.ppp_base.specs.declared.hook_target.HookTarget.TheVariants.{Link, Unit as OfUnit}
 use Rattle.ppp_hooks.specs.HookPast.{last_in, open_in}
@@ -12,14 +11,13 @@ use Rattle.ppp_mark.specs.Log.{LogState}
 use Rattle.ppp_mark.specs.Marks.{close_mark, ip_closed_mark, out_mark, started_mark, unmade_mark}
 use Rattle.ppp_mark.specs.ScriptLog.{ScriptLogState, log_closed_at}
 use Rattle.ppp_mark.specs.Scripts.{marks_at, said_in}
-use Rattle.ppp_mp.specs.StandsFor.{GatherNow}
 use Rattle.ppp_unit_parts.specs.declared.live.Live.{Live}
 use Rattle.ppp_unit_parts.specs.declared.member.Member.{Member}
 use Rattle.ppp_unit_parts.specs.declared.outbox.BundleEnd.{BundleEnd}
 use Rattle.ppp_unit_parts.specs.declared.outbox.Ending.{Ending}
 use Rattle.ppp_bundle.specs.Closing.{closed, closed_of, end_of, outs, unmade}
 use Rattle.ppp_bundle.specs.History.{Moment, Terms, HasReason, asked_in}
-use Rattle.ppp_bundle.specs.Lives.{Ends, GathersAll, GathersThenDrops, Reached, is_made_or_close}
+use Rattle.ppp_bundle.specs.Lives.{Ends, Reached, is_made_or_close}
 use Rattle.ppp_bundle.specs.Replay.{since_made}
 use Rattle.ppp_bundle.specs.ScriptParts.{marked, shut}
 use Rattle.ppp_bundle.specs.State.{UnitState}
@@ -62,21 +60,17 @@ unmade_behind l unit time s e =
     (shut_behind s.machine.target (open_in (said_in s.log.past)) unit time s.log s.log.past e (record { some = []; is = refl; quiet = refl })))
     refl
 
-drops_none : (m : Option MrruPair) (gather : GatherNow) (past : List Moment) → m ≡ None → GathersAll m gather past → GathersThenDrops m gather past
-drops_none None gather past e g = g
-drops_none (Some mrru) gather past e g = absurd (let f : Some mrru ≡ None = e in cc)
-
--- A unit without a bundle, which was closed by this.
-pub record Over {S : Type 0} (terms : Terms) (past : List Moment) (u : UnitState S) : Type 0 where
+-- A unit without a bundle, which was closed by this, with these packets left.
+pub record Over {S : Type 0} (terms : Terms) (past : List Moment) (left : List (List ℕ)) (u : UnitState S) : Type 0 where
   pub end : BundleEnd
   pub live : u.live ≡ None
   pub ended : u.ended ≡ Some end
-  pub ends : Ends terms past u end
+  pub ends : Ends terms past left u end
 
-over_of : {S : Type 0} (terms : Terms) (past : List Moment) (u : UnitState S) (l : Live) (end : Ending)
-    → terms.mrru ≡ None → u.scripts.machine.target ≡ OfUnit u.unit → Reached terms u.time u.gather l past → asked_in terms past ≡ []
-    → HasReason terms past (since_made u.scripts.log.past) end.cause end.elapsed_ms → Over terms past (closed_of (Some l) end u)
-over_of terms past u l end plain target r done reason =
+over_of : {S : Type 0} (terms : Terms) (past : List Moment) (left : List (List ℕ)) (u : UnitState S) (l : Live) (end : Ending)
+    → u.scripts.machine.target ≡ OfUnit u.unit → Reached terms u.time u.gather l past left → asked_in terms past ≡ []
+    → HasReason terms past (since_made u.scripts.log.past) end.cause end.elapsed_ms → Over terms past left (closed_of (Some l) end u)
+over_of terms past left u l end target r done reason =
     let s = marked (close_mark u.time end.cause end.elapsed_ms) u.scripts in
     let b = unmade_behind l u.unit u.time s target in
     record {
@@ -92,7 +86,7 @@ over_of terms past u l end plain target r done reason =
         order = r.order;
         done = done;
         called = r.ipcp;
-        gathers = drops_none terms.mrru u.gather past plain r.gathers;
+        gathers = r.gathers;
         place = b.is;
         last = b.quiet;
         reason = reason;
@@ -100,8 +94,8 @@ over_of terms past u l end plain target r done reason =
       };
     }
 
-pub closed_over : {S : Type 0} (terms : Terms) (past : List Moment) (u : UnitState S) (l : Live) (end : Ending)
-    → u.live ≡ Some l → terms.mrru ≡ None → u.scripts.machine.target ≡ OfUnit u.unit → Reached terms u.time u.gather l past → asked_in terms past ≡ []
-    → HasReason terms past (since_made u.scripts.log.past) end.cause end.elapsed_ms → Over terms past (closed end u)
-closed_over {S = S} terms past u l end live plain target r done reason =
-    subst (λ (v : UnitState S). Over terms past v) (sym (ap (λ (o : Option Live). closed_of o end u) live)) (over_of terms past u l end plain target r done reason)
+pub closed_over : {S : Type 0} (terms : Terms) (past : List Moment) (left : List (List ℕ)) (u : UnitState S) (l : Live) (end : Ending)
+    → u.live ≡ Some l → u.scripts.machine.target ≡ OfUnit u.unit → Reached terms u.time u.gather l past left → asked_in terms past ≡ []
+    → HasReason terms past (since_made u.scripts.log.past) end.cause end.elapsed_ms → Over terms past left (closed end u)
+closed_over {S = S} terms past left u l end live target r done reason =
+    subst (λ (v : UnitState S). Over terms past left v) (sym (ap (λ (o : Option Live). closed_of o end u) live)) (over_of terms past left u l end target r done reason)

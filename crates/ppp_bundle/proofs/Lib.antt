@@ -1,6 +1,7 @@
 pub mod EndFacts
 pub mod SoundFacts
 pub mod PlainFacts
+pub mod EnterFacts
 pub mod CallFacts
 pub mod MemberSteps
 pub mod ReadyFacts
@@ -8,12 +9,15 @@ pub mod AskFacts
 pub mod ReplayFacts
 pub mod LogFacts
 pub mod CountFacts
+pub mod PieceMoments
+pub mod ViewMoments
 pub mod CallMoments
 pub mod CloseMoments
 pub mod MidMoments
 pub mod EventMoments
 pub mod StepMoments
 pub mod PassMoments
+pub mod UseMoments
 pub mod BringMoments
 pub mod LeaveMoments
 pub mod GoesFacts
@@ -21,3 +25,4 @@ pub mod StandFacts
 pub mod StandMoments
 pub mod StandSteps
 pub mod UnitFacts
+pub mod LawFacts

@@ -1,8 +1,7 @@
--- A plain bundle in the midst of a step: what has happened to it so far, and what its IPCP is still asked.
+-- A bundle in the midst of a step: what has happened to it so far, and what its IPCP is still asked.
 use Rattle.std.proofs.Common.{◌≡◌, ◌⊎◌, inl, inr, ℕ, zero, suc, ◌*◌, ◌-◌, ◌<◌, ◌≤◌, Bool, true, false, Option, None, Some, List, [], ◌∷◌, ◌++◌, refl, ap, sym, subst, ◌∙◌, append_assoc, append-nil, arith}
 use Rattle.std.proofs.lemmas.Bool.Decides.{nat_tests}
-use Rattle.std.specs.Prelude.{◌==◌, ◌&&◌, min, nat_le, not, option_to_list, if◌then◌else◌}
-use Rattle.ppp_base.specs.Mrru.{MrruPair}
+use Rattle.std.specs.Prelude.{◌==◌, ◌&&◌, min, nat_le, not, if◌then◌else◌}
 use Rattle.ppp_base.specs.declared.hook_target.HookTarget.TheVariants.{Unit as OfUnit}
 use Rattle.ppp_base.specs.declared.posts.CloseCause.{CloseCause}
 use Rattle.ppp_base.specs.declared.posts.CloseCause.TheVariants.{Idle, ConnectTime, IpcpFailed, EndedByPeer}
@@ -13,37 +12,74 @@ use Rattle.ppp_ipcp.specs.Session.{IpcpCall, session_after}
 use Rattle.ppp_secrets.specs.declared.secrets.SecretsPair.{SecretsPair}
 use Rattle.ppp_unit_parts.specs.declared.live.IpCall.{IpCall}
 use Rattle.ppp_unit_parts.specs.declared.live.Live.{Live}
-use Rattle.ppp_unit_parts.specs.declared.member.Member.{Member}
 use Rattle.ppp_unit_parts.specs.declared.outbox.Ending.{Ending}
 use Rattle.ppp_unit_parts.specs.declared.outbox.Sending.{Sending}
 use Rattle.ppp_unit_parts.specs.declared.outbox.UnitCounts.{UnitCounts}
 use Rattle.ppp_bundle.specs.Closing.{closed_of, connect_end, idle_end}
 use Rattle.ppp_unit_parts.specs.Live.{ending, most_elapsed, is_up}
-use Rattle.ppp_bundle.specs.History.{Moment, Calls, Terms, IsOver, asked_in, by_peer_after, calls_in, counts_in, entered_in, given_in, has_finished_after, is_up_in, packets_of, time_in, whole_by, whole_in}
+use Rattle.ppp_bundle.specs.History.{Moment, Calls, Terms, IsOver, asked_in, by_peer_after, calls_in, counts_in, entered_in, given_in, has_finished_after, is_up_in, time_in, counted, drops_by, given_by, left_out, rejects_by, sends_by}
 use Rattle.ppp_bundle.specs.IpCalls.{called, finish_of, finished}
 use Rattle.ppp_unit_parts.specs.Calls.{around_of, call_of, has_finished, ip_left, live_left, live_tells}
-use Rattle.ppp_bundle.specs.Lives.{HasMember, Reached}
-use Rattle.ppp_unit_parts.specs.Member.{views_of}
+use Rattle.ppp_bundle.specs.Lives.{Reached, SendsSince}
 use Rattle.ppp_bundle.specs.State.{UnitState}
-use Rattle.ppp_bundle.proofs.CallFacts.{plain_sent}
-use Rattle.ppp_bundle.proofs.CallMoments.{args_then, at_turn, call_made, followed_is, reached_call, sent_all_is, target_turned, turned_unit}
+use Rattle.ppp_bundle.proofs.CallMoments.{args_then, at_turn, call_made, followed_is, reached_call, target_turned, turned_unit, reached_sends, sends_left}
 use Rattle.ppp_bundle.proofs.CloseMoments.{Over, closed_over}
+use Rattle.ppp_mp.specs.StandsFor.{GatherNow}
+use Rattle.ppp_bundle.specs.Frames.{Inner}
+use Rattle.ppp_bundle.proofs.PieceMoments.{all_out, out_is, sends_start, sends_then}
 
--- The bundle lives, and this is still asked.
-pub record Mid {S : Type 0} (terms : Terms) (past : List Moment) (asked : List (Call Around)) (u : UnitState S) : Type 0 where
+-- The bundle lives, this is still asked, and these packets are left of what was gathered.
+pub record Mid {S : Type 0} (terms : Terms) (past : List Moment) (asked : List (Call Around)) (left : List (List ℕ)) (u : UnitState S) : Type 0 where
   pub l : Live
   pub live : u.live ≡ Some l
-  pub reached : Reached terms u.time u.gather l past
+  pub reached : Reached terms u.time u.gather l past left
   pub asked_is : asked_in terms past ≡ asked
   pub going : has_finished_after (calls_in past) ≡ false
   pub ended : u.ended ≡ None
   pub target : u.scripts.machine.target ≡ OfUnit u.unit
 
--- What is sent, given and counted is what these moments say.
-pub record Flows {S : Type 0} (terms : Terms) (since past : List Moment) (counts : UnitCounts) (u : UnitState S) : Type 0 where
-  pub sends : whole_in terms past ++ u.sent ≡ whole_in terms (since ++ past)
+-- What is sent, given and counted is what these moments say, and what is left is dropped.
+pub record Flows {S : Type 0} (terms : Terms) (since past : List Moment) (left : List (List ℕ)) (counts : UnitCounts) (u : UnitState S) : Type 0 where
+  pub sends : SendsSince terms terms.mrru since past u.sent
   pub gives : given_in terms past ++ u.given ≡ given_in terms (since ++ past)
-  pub counts_are : u.counts ≡ counts_in terms since past counts
+  pub counts_are : u.counts ≡ left_out left (counts_in terms since past counts)
+
+-- where a step begins
+pub flows_start : {S : Type 0} (terms : Terms) (past : List Moment) (time : ℕ) (gather : GatherNow) (left : List (List ℕ)) (l : Live) (u : UnitState S) → Reached terms time gather l past left → u.sent ≡ [] → u.given ≡ [] → Flows terms [] past [] u.counts u
+flows_start terms past time gather left l u r sent given = record {
+  sends = subst (λ (x : List Sending). SendsSince terms terms.mrru [] past x) (sym sent) (sends_start terms past terms.mrru l.pieces r.cuts);
+  gives = ap (λ (x : List (List ℕ)). given_in terms past ++ x) given ∙ append-nil (given_in terms past);
+  counts_are = refl;
+}
+
+-- One moment more, at which nothing is rejected.
+pub flows_then : {S : Type 0} (terms : Terms) (since past : List Moment) (moment : Moment) (counts : UnitCounts) (time : ℕ) (gather : GatherNow) (left : List (List ℕ)) (l : Live) (u v : UnitState S)
+    → Reached terms time gather l (since ++ past) left → rejects_by terms moment (since ++ past) ≡ []
+    → v.sent ≡ u.sent ++ all_out l (sends_by terms moment (since ++ past)) → v.given ≡ u.given ++ given_by terms moment (since ++ past)
+    → v.counts ≡ counted (drops_by terms moment (since ++ past)) u.counts → Flows terms since past [] counts u → Flows terms (moment ∷ since) past [] counts v
+flows_then terms since past moment counts time gather left l u v r none sent given drops flows = record {
+  sends = subst (λ (x : List Sending). SendsSince terms terms.mrru (moment ∷ since) past x) (sym sent)
+      (sends_then terms since past terms.mrru moment l u.sent (reached_sends terms (since ++ past) time gather left l r) r.cuts none flows.sends);
+  gives = ap (λ (x : List (List ℕ)). given_in terms past ++ x) given ∙ sym (append_assoc (given_in terms past) u.given (given_by terms moment (since ++ past)))
+      ∙ ap (λ (x : List (List ℕ)). x ++ given_by terms moment (since ++ past)) flows.gives;
+  counts_are = drops ∙ ap (λ (c : UnitCounts). counted (drops_by terms moment (since ++ past)) c) flows.counts_are;
+}
+
+abbrev pub no_datagram : List (List ℕ)
+no_datagram = []
+
+pub nothing_of : (up : Bool) → no_datagram ≡ (if up then no_datagram else no_datagram)
+nothing_of true = refl
+nothing_of false = refl
+
+-- One moment more, at which nothing is sent.
+pub flows_quiet : {S : Type 0} (terms : Terms) (since past : List Moment) (moment : Moment) (counts : UnitCounts) (time : ℕ) (gather : GatherNow) (left : List (List ℕ)) (l : Live) (u v : UnitState S)
+    → Reached terms time gather l (since ++ past) left → sends_by terms moment (since ++ past) ≡ [] → rejects_by terms moment (since ++ past) ≡ []
+    → v.sent ≡ u.sent → v.given ≡ u.given ++ given_by terms moment (since ++ past)
+    → v.counts ≡ counted (drops_by terms moment (since ++ past)) u.counts → Flows terms since past [] counts u → Flows terms (moment ∷ since) past [] counts v
+flows_quiet terms since past moment counts time gather left l u v r quiet none sent given drops flows =
+    flows_then terms since past moment counts time gather left l u v r none
+    (sent ∙ sym (append-nil u.sent) ∙ ap (λ (packets : List Inner). u.sent ++ all_out l packets) (sym quiet)) given drops flows
 
 -- No limit has passed.
 pub record Calm {S : Type 0} (u : UnitState S) : Type 0 where
@@ -122,20 +158,16 @@ finished_calm : {S : Type 0} (has by : Bool) (u : UnitState S) → Calm u → Ca
 finished_calm false by u calm = calm
 finished_calm true by u calm = closed_calm u.live (finish_of by) u refl calm
 
-finishes : {S : Type 0} (terms : Terms) (past : List Moment) (rest : List (Call Around)) (v : UnitState S) (l : Live) (has by : Bool)
-    → v.live ≡ Some l → terms.mrru ≡ None → v.scripts.machine.target ≡ OfUnit v.unit → v.ended ≡ None → Reached terms v.time v.gather l past → asked_in terms past ≡ rest
+finishes : {S : Type 0} (terms : Terms) (past : List Moment) (rest : List (Call Around)) (left : List (List ℕ)) (v : UnitState S) (l : Live) (has by : Bool)
+    → v.live ≡ Some l → v.scripts.machine.target ≡ OfUnit v.unit → v.ended ≡ None → Reached terms v.time v.gather l past left → asked_in terms past ≡ rest
     → has_finished_after (calls_in past) ≡ has → by_peer_after terms.wish (calls_in past) ≡ by → (has ≡ true → rest ≡ [])
-    → Mid terms past rest (finished has by v) ⊎ Over terms past (finished has by v)
-finishes terms past rest v l false by live plain target ended r asked is peer none =
+    → Mid terms past rest left (finished has by v) ⊎ Over terms past left (finished has by v)
+finishes terms past rest left v l false by live target ended r asked is peer none =
     inl (record { l = l; live = live; reached = r; asked_is = asked; going = is; ended = ended; target = target })
-finishes terms past rest v l true true live plain target ended r asked is peer none =
-    inr (closed_over terms past v l (ending EndedByPeer 0) live plain target r (asked ∙ none refl) (is, peer))
-finishes terms past rest v l true false live plain target ended r asked is peer none =
-    inr (closed_over terms past v l (ending IpcpFailed 0) live plain target r (asked ∙ none refl) (is, peer))
-
-pub has_plain : (m : Option MrruPair) (members : List Member) (past : List Moment) → m ≡ None → HasMember m members past → views_of members ≡ option_to_list (entered_in past)
-has_plain None members past e h = h
-has_plain (Some mrru) members past e h = absurd (let f : Some mrru ≡ None = e in cc)
+finishes terms past rest left v l true true live target ended r asked is peer none =
+    inr (closed_over terms past left v l (ending EndedByPeer 0) live target r (asked ∙ none refl) (is, peer))
+finishes terms past rest left v l true false live target ended r asked is peer none =
+    inr (closed_over terms past left v l (ending IpcpFailed 0) live target r (asked ∙ none refl) (is, peer))
 
 -- what a unit whose live bundle is l comes to by a call
 abbrev pub after_call : {S : Type 0} → SecretsPair → IpCall → Live → UnitState S → UnitState S
@@ -146,28 +178,28 @@ pub call_is : {S : Type 0} (secrets : SecretsPair) (call : IpCall) (l : Live) (u
 call_is secrets call l u = followed_is (is_up l) (live_left secrets u.time call l) (live_tells secrets u.time call l) (record u { live = Some l })
 
 -- a call by a unit whose live bundle is l
-pub call_mid : {S : Type 0} (terms : Terms) (past : List Moment) (secrets : SecretsPair) (call : IpCall) (rest : List (Call Around)) (l : Live) (u : UnitState S)
-    → terms.mrru ≡ None → u.scripts.machine.target ≡ OfUnit u.unit → u.ended ≡ None → Reached terms u.time u.gather l past
+pub call_mid : {S : Type 0} (terms : Terms) (past : List Moment) (secrets : SecretsPair) (call : IpCall) (rest : List (Call Around)) (left : List (List ℕ)) (l : Live) (u : UnitState S)
+    → u.scripts.machine.target ≡ OfUnit u.unit → u.ended ≡ None → Reached terms u.time u.gather l past left
     → asked_in terms past ≡ call_of (around_of secrets l) call ∷ rest
     → (entered_in past ≡ None → ip_left (around_of secrets l) u.time call l.ipcp ≡ session_after terms.wish.ip [])
     → (has_finished (live_tells secrets u.time call l).acts ≡ true → rest ≡ [])
-    → Mid terms (Calls (call_made secrets u.time call l) ∷ past) rest (called secrets call (record u { live = Some l }))
-    ⊎ Over terms (Calls (call_made secrets u.time call l) ∷ past) (called secrets call (record u { live = Some l }))
-call_mid {S = S} terms past secrets call rest l u plain target ended r asked quiet none =
+    → Mid terms (Calls (call_made secrets u.time call l) ∷ past) rest left (called secrets call (record u { live = Some l }))
+    ⊎ Over terms (Calls (call_made secrets u.time call l) ∷ past) left (called secrets call (record u { live = Some l }))
+call_mid {S = S} terms past secrets call rest left l u target ended r asked quiet none =
     let c : IpcpCall = call_made secrets u.time call l in
-    let r2 = reached_call terms past secrets call rest u.time u.gather l plain r asked quiet in
+    let r2 = reached_call terms past secrets call rest u.time u.gather left l r asked quiet in
     let v : UnitState S = after_call secrets call l u in
-    subst (λ (x : UnitState S). Mid terms (Calls c ∷ past) rest x ⊎ Over terms (Calls c ∷ past) x) (sym (call_is secrets call l u))
-    (finishes terms (Calls c ∷ past) rest v _ (has_finished (live_tells secrets u.time call l).acts) (live_left secrets u.time call l).by_peer
-    refl plain (target_turned (is_up l) (is_up (live_left secrets u.time call l)) (args_then u.unit (live_left secrets u.time call l)) u.time u.scripts ∙ target) ended r2
+    subst (λ (x : UnitState S). Mid terms (Calls c ∷ past) rest left x ⊎ Over terms (Calls c ∷ past) left x) (sym (call_is secrets call l u))
+    (finishes terms (Calls c ∷ past) rest left v _ (has_finished (live_tells secrets u.time call l).acts) (live_left secrets u.time call l).by_peer
+    refl (target_turned (is_up l) (is_up (live_left secrets u.time call l)) (args_then u.unit (live_left secrets u.time call l)) u.time u.scripts ∙ target) ended r2
     (ap rest_only asked) refl (sym r2.by_peer) none)
   where
     rest_only : List (Call Around) → List (Call Around)
     rest_only [] = []
     rest_only (x ∷ xs) = xs
 
-pub call_calm : {S : Type 0} (secrets : SecretsPair) (call : IpCall) (l : Live) (u : UnitState S) → l.mrru ≡ None → Calm (record u { live = Some l }) → Calm (called secrets call (record u { live = Some l }))
-call_calm {S = S} secrets call l u e calm =
+pub call_calm : {S : Type 0} (secrets : SecretsPair) (call : IpCall) (l : Live) (u : UnitState S) → Calm (record u { live = Some l }) → Calm (called secrets call (record u { live = Some l }))
+call_calm {S = S} secrets call l u calm =
     let l1 : Live = live_left secrets u.time call l in
     subst (λ (x : UnitState S). Calm x) (sym (call_is secrets call l u))
     (finished_calm (has_finished (live_tells secrets u.time call l).acts) l1.by_peer (after_call secrets call l u)
@@ -176,31 +208,26 @@ call_calm {S = S} secrets call l u e calm =
       connect = turned_calm (is_up l) (is_up l1) ConnectTime l.wish.maxconnect_s u.time l.opened_at calm.connect;
     }))
 
-pub call_time : {S : Type 0} (secrets : SecretsPair) (call : IpCall) (l : Live) (u : UnitState S) → l.mrru ≡ None → (called secrets call (record u { live = Some l })).time ≡ u.time
-call_time {S = S} secrets call l u e =
-    ap (λ (x : UnitState S). x.time) (call_is secrets call l u)
-    ∙ (keeps_finished (has_finished (live_tells secrets u.time call l).acts) (live_left secrets u.time call l).by_peer (after_call secrets call l u)).time
-
-nothing_given : (up : Bool) (given : List (List ℕ)) → given ++ (if up then [] else []) ≡ given
-nothing_given true given = append-nil given
-nothing_given false given = append-nil given
-
-pub call_flows : {S : Type 0} (terms : Terms) (since past : List Moment) (counts : UnitCounts) (secrets : SecretsPair) (call : IpCall) (l : Live) (u : UnitState S)
-    → terms.mrru ≡ None → Reached terms u.time u.gather l (since ++ past) → Flows terms since past counts (record u { live = Some l })
-    → Flows terms (Calls (call_made secrets u.time call l) ∷ since) past counts (called secrets call (record u { live = Some l }))
-call_flows {S = S} terms since past counts secrets call l u plain r flows =
+pub call_flows : {S : Type 0} (terms : Terms) (since past : List Moment) (counts : UnitCounts) (secrets : SecretsPair) (call : IpCall) (left : List (List ℕ)) (l : Live) (u : UnitState S)
+    → Reached terms u.time u.gather l (since ++ past) left → Flows terms since past [] counts (record u { live = Some l })
+    → Flows terms (Calls (call_made secrets u.time call l) ∷ since) past [] counts (called secrets call (record u { live = Some l }))
+call_flows {S = S} terms since past counts secrets call left l u r flows =
     let k = keeps_finished (has_finished (live_tells secrets u.time call l).acts) (live_left secrets u.time call l).by_peer (after_call secrets call l u) in
     let out : StepOut = live_tells secrets u.time call l in
     let now : List Moment = since ++ past in
-    let sent = sent_all_is l.members (entered_in now) out.packets u.sent (has_plain terms.mrru l.members now plain r.some) in
-    subst (λ (x : UnitState S). Flows terms (Calls (call_made secrets u.time call l) ∷ since) past counts x) (sym (call_is secrets call l u))
+    let c : IpcpCall = call_made secrets u.time call l in
+    let l1 : Live = live_left secrets u.time call l in
+    subst (λ (x : UnitState S). Flows terms (Calls c ∷ since) past [] counts x) (sym (call_is secrets call l u))
     (record {
-      sends = ap (λ (x : List Sending). whole_in terms past ++ x) (k.sent ∙ plain_sent out.packets (live_left secrets u.time call l) u.sent (r.mrru ∙ plain) ∙ sent)
-          ∙ sym (append_assoc (whole_in terms past) u.sent (whole_by (entered_in now) (packets_of out.packets)))
-          ∙ ap (λ (x : List Sending). x ++ whole_by (entered_in now) (packets_of out.packets)) flows.sends;
+      sends = subst (λ (x : List Sending). SendsSince terms terms.mrru (Calls c ∷ since) past x) (sym (k.sent ∙ out_is out.packets l1 u.sent))
+          (sends_then terms since past terms.mrru (Calls c) l1 u.sent (sends_left terms now secrets u.time call l (reached_sends terms now u.time u.gather left l r)) r.cuts refl flows.sends);
       gives = ap (λ (x : List (List ℕ)). given_in terms past ++ x) k.given ∙ flows.gives ∙ sym (nothing_given (is_up_in terms now) (given_in terms now));
       counts_are = k.counts ∙ flows.counts_are;
     })
+  where
+    nothing_given : (up : Bool) (given : List (List ℕ)) → given ++ (if up then [] else []) ≡ given
+    nothing_given true given = append-nil given
+    nothing_given false given = append-nil given
 
 -- AT THE END OF A STEP
 

@@ -1,5 +1,5 @@
 -- How a bundle ends.
-use Rattle.std.specs.Prelude.{ℕ, ◌*◌, ◌-◌, ◌==◌, ◌&&◌, nat_le, Option, None, Some, List, [], ◌∷◌, if◌then◌else◌}
+use Rattle.std.specs.Prelude.{ℕ, nat_le, Option, None, Some, List, [], ◌∷◌, if◌then◌else◌}
 use Rattle.ppp_base.specs.declared.posts.CloseCause.TheVariants.{Idle, ConnectTime, TooManyChanges}
 use Rattle.ppp_base.specs.Posts.{cause_number}
 use Rattle.ppp_mark.specs.declared.mark.Mark.{Mark}

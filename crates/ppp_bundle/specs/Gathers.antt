@@ -41,6 +41,6 @@ pub record Same (old : GatherNow) (g : Gathered) : Type 0 where
 abbrev pub Gathers : GatherCall → GatherNow → Gathered → Type 0
 Gathers nothing_asked old g = Same old g
 Gathers (begins mrru) old g = Begins mrru g
-Gathers (link_joins link) old g = AddsEntry old (Joins link) g
+Gathers (link_joins link) old g = AddsEntry old (Joins link) g × (g.packets ≡ [])
 Gathers (link_leaves link) old g = AddsEntry old (Leaves link) g
 Gathers (piece_comes link information) old g = TakesPiece link information old g

@@ -1,10 +1,11 @@
 -- What has happened to a bundle since it was made, by looking back over it, the newest first. Nothing here says in which order a unit does its work: only
 -- what its IPCP and its gatherer stand for, what IPCP is asked just before each of its calls, and what is sent, given and dropped.
-use Rattle.std.specs.Prelude.{ℕ, zero, suc, ◌*◌, ◌-◌, ◌<◌, ◌≤◌, ◌≡◌, ◌==◌, ◌&&◌, ◌||◌, ⊤, min, nat_le, nat_lt, not, Bool, true, false, Option, None, Some, is_some, List, [], ◌∷◌, ◌++◌, length, if◌then◌else◌}
+use Rattle.std.specs.Prelude.{ℕ, zero, suc, ◌*◌, ◌-◌, ◌<◌, ◌≤◌, ◌≡◌, ◌==◌, ◌&&◌, ◌||◌, ◌⊎◌, ⊤, min, nat_le, nat_lt, not, Bool, true, false, Option, None, Some, is_some, List, [], ◌∷◌, ◌++◌, length, if◌then◌else◌, take}
 use Rattle.ppp_base.specs.declared.allow.Allow.{Allow}
 use Rattle.ppp_base.specs.declared.posts.CloseCause.{CloseCause}
 use Rattle.ppp_base.specs.declared.posts.CloseCause.TheVariants.{Idle, ConnectTime, IpcpFailed, EndedByPeer, TooManyChanges}
-use Rattle.ppp_base.specs.declared.protocol.TheConstants.{IP, IPCP, MULTILINK}
+use Rattle.ppp_base.specs.declared.protocol.TheConstants.{IP, IPCP, LCP, MULTILINK}
+use Rattle.ppp_base.specs.declared.octets.TheConstants.{MOST_FRAME}
 use Rattle.ppp_base.specs.Mrru.{MrruPair}
 use Rattle.ppp_base.specs.RingAfter.{one_more}
 use Rattle.ppp_control.specs.Past.{automaton_after}
@@ -25,6 +26,7 @@ use Rattle.ppp_unit_parts.specs.Live.{most_elapsed, most_of_ours}
 use Rattle.ppp_bundle.specs.Frames.{Inner, inner, inner_of}
 use Rattle.ppp_unit_parts.specs.Calls.{has_finished, is_rtr}
 use Rattle.ppp_unit_parts.specs.Pieces.{packet_of, sending}
+use Rattle.ppp_bundle.specs.UnitPart.{entered}
 
 -- A link comes in, with what its peer takes, or goes out; a link brings a frame; a packet is gathered; a datagram is to go to the peer; the unit is told a
 -- time, which is its time then; or IPCP is called, and answers.
@@ -200,6 +202,11 @@ abbrev pub given_in : Terms → List Moment → List (List ℕ)
 given_in terms [] = []
 given_in terms (m ∷ past) = given_in terms past ++ given_by terms m past
 
+-- A datagram came at one of these moments: in a frame of a link that was a member then, or in a packet that was gathered.
+abbrev pub CameIn : Terms → List Moment → (datagram : List ℕ) → Type 0
+CameIn terms [] datagram = ⊥
+CameIn terms (m ∷ past) datagram = (brought_by terms m past ≡ Some (inner IP datagram)) ⊎ CameIn terms past datagram
+
 -- the packets that a moment sends to the peer: IPCP's, and a datagram that passes
 abbrev pub packets_of : List Packet → List Inner
 packets_of [] = []
@@ -220,14 +227,33 @@ abbrev pub whole_in : Terms → List Moment → List Sending
 whole_in terms [] = []
 whole_in terms (m ∷ past) = whole_in terms past ++ whole_by (entered_in past) (sends_by terms m past)
 
--- in a multilink bundle each is cut, the newest first, over those who are members then
+-- in a multilink bundle each is cut, the newest first, over those who are members then; where nobody is, nothing is sent
 abbrev pub cuts_by : List MemberView → List Inner → List CutPacket → List CutPacket
-cuts_by members [] cuts = cuts
-cuts_by members (i ∷ packets) cuts = cuts_by members packets (record { packet = packet_of i.protocol i.information; members = members } ∷ cuts)
+cuts_by [] packets cuts = cuts
+cuts_by (m ∷ members) [] cuts = cuts
+cuts_by (m ∷ members) (i ∷ packets) cuts = cuts_by (m ∷ members) packets (record { packet = packet_of i.protocol i.information; members = m ∷ members } ∷ cuts)
 
 abbrev pub cuts_in : Terms → List Moment → List CutPacket
 cuts_in terms [] = []
 cuts_in terms (m ∷ past) = cuts_by (views_up_to 16 past) (sends_by terms m past) (cuts_in terms past)
+
+-- what was gathered of another protocol than IPCP's, a datagram's and LCP's is to be rejected by the least member (RFC 1661, section 5.7)
+abbrev pub is_refused : ℕ → Bool
+is_refused protocol = not (protocol == IPCP || protocol == IP || protocol == LCP)
+
+abbrev pub rejection_by : Option Inner → List MemberView → List Sending
+rejection_by None members = []
+rejection_by (Some i) [] = []
+rejection_by (Some i) (m ∷ members) =
+    if is_refused i.protocol then record { link = m.link; protocol = i.protocol; information = take MOST_FRAME i.information; rejected = true } ∷ [] else []
+
+abbrev pub rejects_by : Terms → Moment → List Moment → List Sending
+rejects_by terms (Gathered secrets packet) past = rejection_by (brought_by terms (Gathered secrets packet) past) (views_up_to 16 past)
+rejects_by terms _ past = []
+
+abbrev pub rejects_in : Terms → List Moment → List Sending
+rejects_in terms [] = []
+rejects_in terms (m ∷ past) = rejects_in terms past ++ rejects_by terms m past
 
 -- why something is dropped
 pub data Drop : Type 0 where
@@ -259,6 +285,11 @@ drops_by terms _ past = None
 abbrev pub counts_in : Terms → (since past : List Moment) → UnitCounts → UnitCounts
 counts_in terms [] past counts = counts
 counts_in terms (m ∷ since) past counts = counted (drops_by terms m (since ++ past)) (counts_in terms since past counts)
+
+-- what was gathered and not used, as the bundle was closed before, is dropped
+abbrev pub left_out : List (List ℕ) → UnitCounts → UnitCounts
+left_out [] counts = counts
+left_out (packet ∷ left) counts = left_out left (counted (Some NotOpen) counts)
 
 -- WHEN
 

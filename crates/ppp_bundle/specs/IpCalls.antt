@@ -1,5 +1,5 @@
 -- The calls of a bundle's IPCP (RFC 1332), and what follows from them.
-use Rattle.std.specs.Prelude.{ℕ, ◌||◌, ◌&&◌, Bool, true, false, Option, None, Some, List, [], ◌∷◌, if◌then◌else◌}
+use Rattle.std.specs.Prelude.{Bool, true, false, Option, None, Some, List, [], ◌∷◌, if◌then◌else◌}
 use Rattle.ppp_base.specs.declared.protocol.TheConstants.{IPCP}
 use Rattle.ppp_base.specs.declared.posts.CloseCause.TheVariants.{IpcpFailed, EndedByPeer}
 use Rattle.ppp_control.specs.declared.negotiation.StepOut.{StepOut}

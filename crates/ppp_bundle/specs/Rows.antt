@@ -104,6 +104,10 @@ first_marks = made_mark 0 1 1 ∷ in_mark 0 1 1 ∷ []
 abbrev pub script_ends : ℕ → BundleEvent Silent
 script_ends job = HookOver (record { target = OfUnit 0; number = job; not_started = 0; answer = Exit 0; spawner = silent })
 
+-- The peer rejects the code of our request.
+abbrev pub code_reject : BundleEvent Silent
+code_reject = ipcp (7 ∷ 1 ∷ 0 ∷ 8 ∷ 1 ∷ 1 ∷ 0 ∷ 4 ∷ [])
+
 -- The peer's Terminate-Request.
 abbrev pub peer_ends : BundleEvent Silent
 peer_ends = ipcp (5 ∷ 9 ∷ 0 ∷ 4 ∷ [])

@@ -1,5 +1,5 @@
 -- What a bundle sends (RFC 1990, sections 3 and 4): a plain bundle the packet as it is, on its one member; a multilink bundle its pieces.
-use Rattle.std.specs.Prelude.{ℕ, zero, suc, ◌+◌, ◌-◌, ◌*◌, ◌/◌, ◌%◌, true, Option, None, Some, List, [], ◌∷◌, ◌++◌, take}
+use Rattle.std.specs.Prelude.{ℕ, true, Option, None, Some, List, [], ◌∷◌, ◌++◌, take}
 use Rattle.ppp_base.specs.declared.octets.TheConstants.{MOST_FRAME}
 use Rattle.ppp_unit_parts.specs.declared.live.Live.{Live}
 use Rattle.ppp_unit_parts.specs.declared.member.Member.{Member}

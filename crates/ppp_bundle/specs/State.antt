@@ -1,5 +1,5 @@
 -- What contracts see of a unit.
-use Rattle.std.specs.Prelude.{ℕ, ◌==◌, Bool, false, Option, None, Some, List, [], ◌∷◌}
+use Rattle.std.specs.Prelude.{ℕ, Bool, false, Option, None, Some, List, []}
 use Rattle.ppp_mark.specs.ScriptLog.{ScriptLogState}
 use Rattle.ppp_mp.specs.StandsFor.{GatherNow}
 use Rattle.ppp_unit_parts.specs.declared.live.Live.{Live}

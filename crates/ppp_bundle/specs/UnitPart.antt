@@ -178,16 +178,6 @@ IsLinkNumber (Datagram datagram) = ⊤
 IsLinkNumber (Tick now) = ⊤
 IsLinkNumber (HookOver done) = ⊤
 
--- What makes a bundle makes a plain one.
-abbrev pub IsPlainEvent : {S : Type 0} → BundleEvent S → Type 0
-IsPlainEvent (Make number maker wish mrru allow) = mrru ≡ None
-IsPlainEvent (In link stay mru) = ⊤
-IsPlainEvent (Out link stay) = ⊤
-IsPlainEvent (Frame link protocol information) = ⊤
-IsPlainEvent (Datagram datagram) = ⊤
-IsPlainEvent (Tick now) = ⊤
-IsPlainEvent (HookOver done) = ⊤
-
 -- The counts with which a spawner was handed in travel with it: while it isn't in the machine they come back with the script's end.
 abbrev pub EventCounts : {S : Type 0} → (tries faults : S → ℕ) → ℕ → ℕ → BundleEvent S → UnitState S → Type 0
 EventCounts tries faults t f (HookOver done) u = DoneCounts tries faults t f done

@@ -7,12 +7,12 @@ ghost use Rattle.ppp_hooks.specs.HookPast.{ends_in, greatest_in, not_started_in,
 ghost use Rattle.ppp_hooks.specs.HookWords.{words_of_start};
 ghost use Rattle.ppp_mark.specs.Log.{no_marks};
 ghost use Rattle.ppp_mark.specs.Scripts.{LogLaw, LogSettled, said_in};
-ghost use Rattle.ppp_bundle.specs.Lives.{GathersAlways, GoesOnAll, HasBegun, HasPlainHistory};
+ghost use Rattle.ppp_bundle.specs.Lives.{GoesOnAll, HasBegun, HasItsHistory};
 ghost use Rattle.ppp_bundle.specs.MayStand.{AllMayStand, mrru_of};
 ghost use Rattle.ppp_bundle.specs.Replay.{Replay, bundles_in, openings_in};
 ghost use Rattle.ppp_bundle.specs.Sound.{IsGoing, IsSound};
 ghost use Rattle.ppp_bundle.specs.State.{is_open, members_of};
-ghost use Rattle.ppp_bundle.specs.UnitPart.{EventCounts, IsFresh, IsLinkNumber, IsPlainEvent, MayCome, UnitPart, after_event};
+ghost use Rattle.ppp_bundle.specs.UnitPart.{EventCounts, IsFresh, IsLinkNumber, MayCome, UnitPart, after_event};
 
 use crate::event::BundleEvent;
 use crate::unit_state::UnitCore;
@@ -178,8 +178,8 @@ impl<S: Spawner> Bundle<S> {
         requires given { self.old.given ≡ [] }
         ensures taken { IsTaken result ↔ IsFresh event self.old }
         ensures part { OnTaken result (UnitPart secrets.now event self.old self.new) }
-        ensures begun { IsPlainEvent event → OnTaken result (HasBegun event self.old self.new) }
-        ensures goes { IfSome self.old.live (λ l. l.mrru ≡ None) → OnTaken result (GoesOnAll secrets.now event self.old self.new) }
+        ensures begun { OnTaken result (HasBegun event self.old self.new) }
+        ensures goes { OnTaken result (GoesOnAll secrets.now event self.old self.new) }
         ensures counts { (t f : ℕ) → EventCounts S.tries S.faults t f event self.old → OnTaken result (MachineCounts S.tries S.faults t f self.new.scripts.machine) }
         ensures stale { IfStale result (λ back. (back ≡ event) × (self.new ≡ self.old)) }
     {
@@ -234,8 +234,7 @@ impl<S: Spawner> Bundle<S> {
         ensures settled { LogSettled self.now.scripts.log.past (is_open self.now.live) }
         ensures replay { Replay self.now self.now.scripts.log.past }
         ensures marks { AllMayStand self.now.scripts.log.past }
-        ensures history { HasPlainHistory self.now }
-        ensures gathers { IfSome self.now.live (λ l. GathersAlways l.mrru self.now.gather l.members) }
+        ensures history { HasItsHistory self.now }
         ensures room { IfSome self.now.live (λ l. l.made_at + 1024 ≤ self.now.scripts.log.limit) }
     {
         self.core.scripts.log()

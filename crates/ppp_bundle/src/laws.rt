@@ -1,15 +1,25 @@
 //! What follows from the definitions alone: worked rows of a unit.
 
+ghost use Rattle.std.specs.List.{AllByRecursion};
 ghost use Rattle.std.specs.Prelude.{◌≡◌, ◌++◌, ℕ, Some, None, List, [], ◌∷◌, true, false, length, replicate, take};
-ghost use Rattle.ppp_base.specs.declared.posts.CloseCause.TheVariants.{Idle, EndedByPeer};
+ghost use Rattle.ppp_base.specs.declared.posts.CloseCause.TheVariants.{Idle, IpcpFailed, EndedByPeer, TooManyChanges};
 ghost use Rattle.ppp_base.specs.declared.protocol.TheConstants.{IP, IPCP};
 ghost use Rattle.ppp_fsm.specs.declared.fsm.Limits.{Limits};
 ghost use Rattle.ppp_mark.specs.Marks.{close_mark, ended_mark, in_mark, ip_closed_mark, out_mark, started_mark, unmade_mark};
+ghost use Rattle.ppp_base.specs.Mrru.{MrruPair};
+ghost use Rattle.ppp_mark.specs.declared.mark.Mark.{Mark};
+ghost use Rattle.ppp_mp.specs.Header.{long_space};
+ghost use Rattle.ppp_mp.specs.Membership.{IsLink};
+ghost use Rattle.ppp_mp.specs.Reached.{HasReached, Reached, Whole};
 ghost use Rattle.ppp_mp.specs.StandsFor.{GatherNow};
+ghost use Rattle.ppp_bundle.specs.Closing.{crowded_end};
+ghost use Rattle.ppp_bundle.specs.History.{CameIn, Moment, Terms, entries_in, gathered_in, given_in};
+ghost use Rattle.ppp_bundle.specs.Lives.{GathersAll};
+ghost use Rattle.ppp_bundle.specs.Replay.{since_made};
 ghost use Rattle.ppp_outside.specs.declared.spawner.ScriptEnd.TheVariants.{Exit};
 ghost use Rattle.ppp_bundle.specs.declared.event.BundleEvent.TheVariants.{Datagram, Frame, Out, Tick};
 ghost use Rattle.ppp_unit_parts.specs.Pieces.{packet_of, pieces_of};
-ghost use Rattle.ppp_bundle.specs.Rows.{Lawful, address, all_of, at_open, begins, begins_with_two, first_marks, fresh, marks_in, negotiates, peer_ends, piece, script_ends};
+ghost use Rattle.ppp_bundle.specs.Rows.{Lawful, address, all_of, at_open, begins, begins_with_two, code_reject, first_marks, fresh, marks_in, negotiates, peer_ends, piece, script_ends};
 
 /// A bundle is made and link 1 comes in: the first request goes out. The peer's request and its ack open IP, and the start stands behind
 /// it, before the two addresses.
@@ -82,4 +92,27 @@ pub fn sends_pieces()
 pub fn leaves_another()
     ensures marks { (lawful : Lawful) (limits : Limits) (gather : GatherNow) → marks_in (all_of (begins_with_two lawful limits ++ Out 1 1 ∷ []) (fresh gather)) ≡ first_marks ++ in_mark 0 2 1 ∷ out_mark 0 1 1 ∷ [] }
     ensures ended { (lawful : Lawful) (limits : Limits) (gather : GatherNow) → (all_of (begins_with_two lawful limits ++ Out 1 1 ∷ []) (fresh gather)).ended ≡ None }
+{}
+
+/// A Code-Reject of our request: the negotiation has failed, and the bundle ends, in which IP was never open.
+pub fn fails()
+    ensures ended { (lawful : Lawful) (limits : Limits) (gather : GatherNow) → (all_of (begins lawful limits 0 0 ++ code_reject ∷ []) (fresh gather)).ended
+        ≡ Some (record { cause = 14; y = 0; elapsed_ms = 0; live = false }) }
+    ensures marks { (lawful : Lawful) (limits : Limits) (gather : GatherNow) → marks_in (all_of (begins lawful limits 0 0 ++ code_reject ∷ []) (fresh gather))
+        ≡ first_marks ++ close_mark 0 IpcpFailed 0 ∷ out_mark 0 1 1 ∷ unmade_mark 0 1 ∷ [] }
+{}
+
+/// With 900 marks since a bundle was made it is closed, with one less it isn't.
+pub fn changes_too_often()
+    ensures closes { (past : List Mark) → since_made past ≡ 900 → crowded_end past ≡ Some (record { cause = TooManyChanges; elapsed_ms = 0 }) }
+    ensures stays { (past : List Mark) → since_made past ≡ 899 → crowded_end past ≡ None }
+{}
+
+/// Whatever history a bundle has: each datagram that was given came in a frame of a link that was a member then, or in a packet that was
+/// gathered; and each of these packets is whole: made of pieces with consecutive numbers that came over links that were members then.
+pub fn datagrams_are_whole()
+    ensures came { (terms : Terms) (past : List Moment) → AllByRecursion (CameIn terms past) (given_in terms past) }
+    ensures whole { (mrru : MrruPair) (gather : GatherNow) (past : List Moment) (left : List (List ℕ)) (reached : List Reached) → GathersAll (Some mrru) gather past left
+        → AllByRecursion IsLink (entries_in past) → HasReached long_space gather.mrru (entries_in past) reached → AllByRecursion (Whole reached) (gathered_in past) }
+    ensures some { (mrru : ℕ) (past : List Moment) → (reached : List Reached) × HasReached long_space mrru (entries_in past) reached }
 {}

@@ -23,7 +23,7 @@ all_gone members says says' before after link = after link ∙ rw (← before li
 
 -- IN LINK ORDER
 
-or_parts : (a b : Bool) → (a || b) ≡ false → (a ≡ false) × (b ≡ false)
+pub or_parts : (a b : Bool) → (a || b) ≡ false → (a ≡ false) × (b ≡ false)
 or_parts false false e = (refl, refl)
 or_parts false true e = absurd (let f : true ≡ false = e in cc)
 or_parts true b e = absurd (let f : true ≡ false = e in cc)
@@ -57,7 +57,7 @@ pub has_room : (m : Member) (members : List Member) → AreInOrder 0 members →
 has_room m members order other some most = let r : length members + 0 < 16 = room_from 0 m.link members order other some most in omega (arith, r)
 
 -- behind a link
-behind : (low link : ℕ) (members : List Member) → AreInOrder low members → link ≤ low
+pub behind : (low link : ℕ) (members : List Member) → AreInOrder low members → link ≤ low
     → (below link members ≡ 0) × (filter (λ (other : Member). nat_lt other.link link) members ≡ []) × (filter (λ (other : Member). nat_lt link other.link) members ≡ members)
 behind low link [] order most = (refl, refl, refl)
 behind low link (m ∷ members) order most =
