@@ -5,6 +5,8 @@ mod asking;
 mod ending;
 mod laws;
 mod plan;
+#[cfg(test)]
+mod real_tests;
 mod run;
 mod talking;
 #[cfg(test)]
@@ -24,7 +26,7 @@ fn main(rt: HostRuntime) -> ExitCode {
         Ok(words) => words,
         Err(error) => return ExitCode::from(refuse(&mut errors, refusal_of(&error))),
     };
-    let mut dialer = RealDialer::new(rt);
+    let mut dialer = RealDialer::new(rt, rt.alloc());
     let mut files = RealFiles::new(rt);
     let mut clock = RealClock::new(rt);
     let run = chat_run(

@@ -1,8 +1,6 @@
 -- What a control hears of a line.
-use Rattle.std.specs.Prelude.{◌≡◌, ◌≢◌, ◌⊎◌, ℕ, List, [], ◌∷◌, ◌++◌, length, codes, Bool, nat_eq, nat_lt, Option, Some, None, if◌then◌else◌}
-use Rattle.std.specs.Cmp.Lexicographic.{pointwise}
+use Rattle.std.specs.Prelude.{◌≡◌, ◌≢◌, ◌⊎◌, ℕ, List, [], ◌∷◌, ◌++◌, length, nat_lt, Option, Some, None, if◌then◌else◌}
 use Rattle.ppp_base.specs.declared.signal_word.SignalWord.{SignalWord}
-use Rattle.ppp_base.specs.declared.signal_word.SignalWord.TheVariants.{Hup, Int, Term, Usr1, Usr2}
 use Rattle.ppp_outside.specs.SignalNames.{signal_of}
 use Rattle.ppp_real.specs.declared.control.Heard.{Heard}
 use Rattle.ppp_real.specs.declared.control.Heard.TheVariants as heard

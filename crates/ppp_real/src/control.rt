@@ -2,9 +2,10 @@ ghost use Rattle.std.specs.Prelude.{◌≡◌, None};
 ghost use Rattle.ppp_real.specs.Control.{HearsOctet};
 
 use crate::socket::{is_quiet, wait_of};
+use crate::texts::text_of;
 use ppp_base::{Name, SignalWord};
 use ppp_outside::{Control, Word, signal_named};
-use std::io::{Error, ErrorKind, Read, Result};
+use std::io::{Read, Result};
 use std::net::Net;
 use std::os::fd::AsFd;
 use std::os::unix::net::{UnixListener, UnixStream};
@@ -152,11 +153,8 @@ impl Talks {
 
 // The socket at this path.
 fn open<R: rt::Files + Net>(rt: &R, path: &Name) -> Result<Talks> {
-    let Ok(path) = str::from_utf8(path.as_slice()) else {
-        return Err(Error::from(ErrorKind::InvalidInput));
-    };
     Ok(Talks {
-        listener: UnixListener::bind(rt, path)?,
+        listener: UnixListener::bind(rt, text_of(path.as_slice())?)?,
         talker: None,
         line: Line {
             octets: Name::new(),

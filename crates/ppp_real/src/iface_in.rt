@@ -2,6 +2,7 @@ ghost use Rattle.std.specs.Prelude.{◌≡◌, None, IfOk};
 ghost use Rattle.ppp_outside.specs.Messages.{IsFilled};
 
 use crate::socket::{is_quiet, wait_of};
+use crate::texts::text_of;
 use ppp_base::{Datagram, Name};
 use ppp_outside::{IfaceGot, IfaceIn, UnitDatagram, packet_in};
 use std::io::{Error, ErrorKind, Result};
@@ -68,10 +69,7 @@ impl Messages {
 
 /// The two addresses, ours and the peer's.
 pub fn both_addresses(addresses: &Name) -> Result<(&str, &str)> {
-    let Ok(text) = str::from_utf8(addresses.as_slice()) else {
-        return Err(Error::from(ErrorKind::InvalidInput));
-    };
-    match text.split_once(',') {
+    match text_of(addresses.as_slice())?.split_once(',') {
         Some(both) => Ok(both),
         None => Err(Error::from(ErrorKind::InvalidInput)),
     }

@@ -4,6 +4,10 @@
 //! world's. Want of memory inside a call that has no answer for it is a fault.
 #![tactic(auto)]
 
+mod child;
+mod child_output;
+#[cfg(test)]
+mod child_tests;
 mod clock;
 mod control;
 #[cfg(test)]
@@ -15,6 +19,9 @@ mod iface_in;
 mod iface_out;
 #[cfg(test)]
 mod iface_tests;
+mod kit;
+#[cfg(test)]
+mod kit_tests;
 mod line_counts;
 mod line_in;
 mod line_out;
@@ -24,8 +31,10 @@ mod socket;
 mod spawner;
 #[cfg(test)]
 mod spawner_tests;
+mod streams;
 #[cfg(test)]
 mod tests;
+mod texts;
 
 pub use clock::RealClock;
 pub use control::RealControl;
@@ -34,6 +43,8 @@ pub use files::RealFiles;
 pub use gate::RealGate;
 pub use iface_in::RealIfaceIn;
 pub use iface_out::RealIfaceOut;
+pub use kit::RealKit;
 pub use line_in::RealLineIn;
 pub use line_out::RealLineOut;
 pub use spawner::RealSpawner;
+pub use streams::StandardStream;

@@ -1,21 +1,46 @@
 ghost use Rattle.std.specs.Prelude.{◌≡◌, None};
+ghost use Rattle.std.specs.Io.{WritesAtMost};
 
 use crate::socket::Socket;
 use ppp_outside::{Sink, Took};
+use std::io::{Result, Write};
+use std::process::ChildStdin;
 
 /// The writing half of a line.
 #[derive(Drop)]
 pub struct RealLineOut {
-    socket: Socket,
+    outgoing: Outgoing,
     faults: u64,
+}
+
+/// Where a line's octets go.
+#[derive(Drop)]
+pub enum Outgoing {
+    Socket(Socket),
+    Child(ChildStdin),
+}
+
+impl Outgoing {
+    // Writes once.
+    fn write(&mut self, piece: &[u8]) -> Result<usize>
+        ensures { WritesAtMost result piece.now }
+    {
+        match self {
+            Outgoing::Socket(socket) => socket.write(piece),
+            Outgoing::Child(input) => input.write(piece),
+        }
+    }
 }
 
 impl RealLineOut {
     /// A line to which nothing was written.
-    pub fn new(socket: Socket) -> RealLineOut
+    pub fn new(outgoing: Outgoing) -> RealLineOut
         ensures { result.faults ≡ 0 }
     {
-        RealLineOut { socket, faults: 0 }
+        RealLineOut {
+            outgoing,
+            faults: 0,
+        }
     }
 }
 
@@ -25,7 +50,7 @@ impl Sink for RealLineOut {
     ghost coming = { λ line. None };
 
     fn write(&mut self, piece: &[u8]) -> Took {
-        match self.socket.write(piece) {
+        match self.outgoing.write(piece) {
             Ok(count) if count > 0 || piece.is_empty() => Took::Took(count),
             _ => {
                 self.faults = self.faults.saturating_add(1);

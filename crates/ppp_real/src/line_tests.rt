@@ -1,21 +1,22 @@
 use crate::{RealDialer, RealLineIn, RealLineOut};
 use ppp_base::Octets;
 use ppp_outside::{Dialer, Dialled, LineGot, LineIn, LineWords, Sink, Took};
-use std::fs;
 use std::io::{Read, Write};
 use std::net::TcpListener;
 use std::os::unix::net::UnixListener;
 use std::process::Abort;
+use std::sync::Wait;
 use std::test::Fail;
+use std::{fs, rt};
 
 fn socket_words(text: &str) -> LineWords {
     LineWords::Socket(Octets::from_octets(text.as_bytes()).unwrap_or(Octets::new()))
 }
 
 // What a line answers to the other end, which is `peer`: octets, then nothing, then the end.
-fn talks<P: Read + Write + Drop>(
-    rt: &impl Abort,
-    mut input: RealLineIn,
+fn talks<R: Wait + rt::Clock + Abort + Drop, P: Read + Write + Drop>(
+    rt: &R,
+    mut input: RealLineIn<R>,
     mut output: RealLineOut,
     mut peer: P,
 ) -> Result<(), Fail> {
@@ -38,7 +39,7 @@ fn talks<P: Read + Write + Drop>(
 fn tcp_line_talks(rt: HostRuntime) -> Result<(), Fail> {
     let listener = TcpListener::bind(&rt, "127.0.0.1:0")?;
     let address = listener.local_addr()?.to_string(rt.alloc())?;
-    let mut dialer = RealDialer::new(rt);
+    let mut dialer = RealDialer::new(rt, rt.alloc());
     let Dialled::Line(input, output) = dialer.dial(&socket_words(address.as_str())) else {
         panic!(rt; "no line")
     };
@@ -50,7 +51,7 @@ fn tcp_line_talks(rt: HostRuntime) -> Result<(), Fail> {
 fn unix_line_talks(rt: HostRuntime) -> Result<(), Fail> {
     let path = format!(in rt.alloc(); "/tmp/ppp_real_line_{}", std::process::id(rt.process()))?;
     let listener = UnixListener::bind(&rt, path.as_str())?;
-    let mut dialer = RealDialer::new(rt);
+    let mut dialer = RealDialer::new(rt, rt.alloc());
     let Dialled::Line(input, output) = dialer.dial(&socket_words(path.as_str())) else {
         panic!(rt; "no line")
     };
@@ -62,7 +63,7 @@ fn unix_line_talks(rt: HostRuntime) -> Result<(), Fail> {
 // Nobody listens at the path, and the other text is no address.
 #[test]
 fn a_dial_fails(rt: HostRuntime) -> Result<(), Fail> {
-    let mut dialer = RealDialer::new(rt);
+    let mut dialer = RealDialer::new(rt, rt.alloc());
     for text in ["/tmp/ppp_real_nobody", "127.0.0.1"] {
         match dialer.dial(&socket_words(text)) {
             Dialled::Failed => {}

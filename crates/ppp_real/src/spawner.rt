@@ -4,10 +4,11 @@ ghost use Rattle.ppp_outside.specs.HookWords.{texts_of};
 ghost use Rattle.ppp_outside.specs.Spawner.{failed};
 ghost use Rattle.ppp_real.specs.Spawner.{IsEndOf, listed, path_of};
 
+use crate::texts::text_of;
 use ppp_base::Name;
 use ppp_outside::{HookPaths, HookScript, HookWords, ScriptEnd, Spawner, words_of};
 use std::alloc::Global;
-use std::io::{Error, ErrorKind, Result};
+use std::io::Result;
 use std::process::{Command, ExitStatus, Processes, Stdio};
 
 /// What runs the site scripts of this machine.
@@ -48,23 +49,13 @@ fn path_for(paths: &HookPaths, script: HookScript) -> &Name
     }
 }
 
-// A name as text.
-fn text_of(name: &Name) -> Result<&str>
-    ensures { IfOk result (λ text. text.now ≡ name.now) }
-{
-    match str::from_utf8(name.as_slice()) {
-        Ok(text) => Ok(text),
-        Err(_) => Err(Error::from(ErrorKind::InvalidInput)),
-    }
-}
-
 // Adds the script's argument number `at`, where it has so many.
 fn add_argument(command: &mut Command, words: &HookWords, at: u8) -> Result<()>
     ensures program { OnOk result (command_program command.new ≡ command_program command.old) }
     ensures argument { OnOk result (command_args command.new ≡ command_args command.old ++ listed (slice_get (texts_of words.now) at)) }
 {
     if let Some(text) = words_of(words, at) {
-        command.arg(text_of(&text)?)?;
+        command.arg(text_of(text.as_slice())?)?;
     }
     Ok(())
 }
@@ -75,7 +66,7 @@ fn command_for(alloc: Global, paths: &HookPaths, words: &HookWords) -> Result<Co
     ensures program { IfOk result (λ command. command_program command ≡ path_of paths.now words.now.script) }
     ensures arguments { IfOk result (λ command. command_args command ≡ texts_of words.now) }
 {
-    let mut command = Command::new(alloc, text_of(path_for(paths, words.script))?)?;
+    let mut command = Command::new(alloc, text_of(path_for(paths, words.script).as_slice())?)?;
     add_argument(&mut command, words, 0)?;
     add_argument(&mut command, words, 1)?;
     add_argument(&mut command, words, 2)?;

@@ -1,0 +1,13 @@
+ghost use Rattle.std.specs.Prelude.{◌≡◌, IfOk};
+
+use std::io::{Error, ErrorKind, Result};
+
+/// The octets as text. A program, a path and an address are texts here.
+pub fn text_of(octets: &[u8]) -> Result<&str>
+    ensures { IfOk result (λ text. text.now ≡ octets.now) }
+{
+    match str::from_utf8(octets) {
+        Ok(text) => Ok(text),
+        Err(_) => Err(Error::from(ErrorKind::InvalidInput)),
+    }
+}
