@@ -5,3 +5,5 @@ pub mod FirstFault
 pub mod Reads
 pub mod FaultLine
 pub mod FullSteps
+pub mod FullTrace
+pub mod Sections

@@ -15,6 +15,7 @@ mod full_step;
 pub mod laws;
 mod link_step;
 mod link_word;
+mod sections;
 mod step;
 #[cfg(test)]
 mod tests;
