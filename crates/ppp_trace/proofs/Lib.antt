@@ -1,4 +1,5 @@
 pub mod DecisionLemmas
+pub mod FaultLemmas
 pub mod FullLemmas
 pub mod NumberLemmas
 pub mod OnceLemmas

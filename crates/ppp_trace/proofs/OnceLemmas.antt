@@ -61,7 +61,7 @@ no_fault octets ss bad trace fault =
     ]
 
 abbrev kinds : List FaultKind
-kinds = kind.Size ∷ kind.Empty ∷ kind.Header ∷ kind.Step ∷ kind.Long ∷ kind.Steps ∷ []
+kinds = kind.Size ∷ kind.Empty ∷ kind.Header ∷ kind.Step ∷ kind.Long ∷ kind.Steps ∷ kind.Options ∷ kind.Secrets ∷ []
 
 ranked : (k : FaultKind) → slice_get kinds (rank k) ≡ Some k
 ranked kind.Size = refl
@@ -70,6 +70,8 @@ ranked kind.Header = refl
 ranked kind.Step = refl
 ranked kind.Long = refl
 ranked kind.Steps = refl
+ranked kind.Options = refl
+ranked kind.Secrets = refl
 
 same_bad : (a b : BadTrace) → a.line ≡ b.line → rank a.kind ≡ rank b.kind → a ≡ b
 same_bad a b line order =

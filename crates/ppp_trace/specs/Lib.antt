@@ -6,4 +6,6 @@ pub mod Reads
 pub mod FaultLine
 pub mod FullSteps
 pub mod FullTrace
+pub mod FullFault
 pub mod Sections
+pub mod Parts

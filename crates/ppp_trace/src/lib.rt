@@ -15,10 +15,12 @@ mod full_step;
 pub mod laws;
 mod link_step;
 mod link_word;
+mod parts;
 mod sections;
 mod step;
 #[cfg(test)]
 mod tests;
+mod trace_file;
 mod words;
 mod world_step;
 
@@ -31,6 +33,9 @@ pub use world_step::{LineOctets, WorldStep};
 
 /// How many steps a bare trace has at most.
 pub const MOST_STEPS: usize = 100_000;
+
+/// How many steps a full trace has at most.
+pub const MOST_FULL_STEPS: usize = 1_000_000;
 
 /// How many octets a trace has at most.
 pub const MOST_OCTETS: u32 = 67_108_864;

@@ -1,12 +1,15 @@
-ghost use Rattle.std.specs.Prelude.{◌≡◌, ℕ, ◌+◌, ◌<◌, ◌≤◌, ◌==◌, min, nat_lt, Some, List, length, option_map, if◌then◌else◌, IfOk, IfSome, MatchOption};
+ghost use Rattle.std.specs.Prelude.{◌≡◌, ℕ, ◌+◌, ◌^◌, ◌<◌, ◌≤◌, ◌==◌, min, nat_lt, Some, List, length, option_map, if◌then◌else◌, IfOk, IfSome, MatchOption, MatchResult};
 ghost use Rattle.ppp_mark.specs.Lines.{lines_of};
 ghost use Rattle.ppp_trace.specs.FullTrace.{IsCount, NoSection, SaysCount};
 ghost use Rattle.ppp_base.specs.Numbers.{may_be_number};
 ghost use Rattle.ppp_base.specs.declared.numbers.LeadingZeros.TheVariants.{Refused};
-ghost use Rattle.ppp_trace.specs.Sections.{ReadsSection, TakesLines, with_long};
-ghost use Rattle.ppp_trace.specs.declared.TheConstants.{MOST_LINE};
+ghost use Rattle.ppp_trace.specs.Sections.{ReadsSection, StartsWith, TakesLines, TellsStart, with_long};
+ghost use Rattle.ppp_trace.specs.declared.fault.TraceFault.TheVariants.{Bad};
+ghost use Rattle.ppp_trace.specs.declared.TheConstants.{MOST_LINE, MOST_OCTETS};
 
 use crate::MOST_LINE;
+use crate::bare::bad;
+use crate::fault::{FaultKind, TraceFault};
 use ppp_base::NoMemory;
 use ppp_mark::lines::first_line;
 use std::alloc::Global;
@@ -167,5 +170,44 @@ fn next_place(long: Option<u64>) -> Option<u64>
     match long {
         Some(place) => Some(place + 1),
         None => None,
+    }
+}
+
+/// A fault of this line. A line above `u32::MAX` stands for that.
+pub fn bad_at(line: u64, kind: FaultKind) -> TraceFault
+    ensures { line < 2 ^ 32 → result ≡ Bad (record { line = line; kind = kind }) }
+{
+    bad(u32::try_from(line).unwrap_or(u32::MAX), kind)
+}
+
+/// The section of this name with which a text begins, behind so many lines.
+pub fn start_section<'a>(
+    alloc: Global,
+    text: &'a [u8],
+    name: &[u8],
+    line: u64,
+) -> Result<Section<'a>, TraceFault>
+    ensures { line + length (lines_of text.now) ≤ MOST_OCTETS → MatchResult result (StartsWith name.now (lines_of text.now)) (TellsStart name.now line (lines_of text.now)) }
+{
+    match read_section(alloc, text, name) {
+        Ok(Some(section)) => started(section, line),
+        Ok(None) => Err(bad_at(line.saturating_add(1), FaultKind::Header)),
+        Err(want) => Err(TraceFault::NoMemory(want)),
+    }
+}
+
+// The section, where it is whole and its own line isn't too long.
+fn started(section: Section<'_>, line: u64) -> Result<Section<'_>, TraceFault>
+    ensures { (name : List ℕ) (lines : List (List ℕ)) → line + length lines ≤ MOST_OCTETS → ReadsSection name lines section.entry → MatchResult result (StartsWith name lines) (TellsStart name line lines) }
+{
+    let first = line.saturating_add(1);
+    match section.long {
+        Some(0) => Err(bad_at(first, FaultKind::Long)),
+        _ if section.whole => Ok(section),
+        Some(place) => Err(bad_at(first.saturating_add(place), FaultKind::Long)),
+        None => Err(bad_at(
+            first.saturating_add(section.count).saturating_add(1),
+            FaultKind::Header,
+        )),
     }
 }
