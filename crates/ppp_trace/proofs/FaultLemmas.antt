@@ -1,10 +1,10 @@
 -- The first fault of octets that are no full trace.
-use Rattle.std.proofs.Common.{◌≡◌, ◌≢◌, ◌^◌, min, false, ℕ, zero, suc, ◌+◌, ◌<◌, ◌≤◌, ◌⊎◌, List, [], ◌∷◌, ◌++◌, length, drop, Option, None, Some, refl, ap, sym, subst, ◌∙◌, arith, inl, inr, length-append, append-nil}
+use Rattle.std.proofs.Common.{◌≡◌, ◌^◌, min, false, ℕ, zero, suc, ◌+◌, ◌<◌, ◌≤◌, ◌⊎◌, List, [], ◌∷◌, ◌++◌, length, drop, None, Some, refl, ap, sym, subst, ◌∙◌, arith, inl, inr, length-append, append-nil}
 use Rattle.std.proofs.Math.Seq.{drop-append_seam}
 use Rattle.ppp_base.specs.Numbers.{value_behind}
 use Rattle.ppp_trace.specs.FirstFault.{NotBehind, rank}
-use Rattle.ppp_trace.specs.FullFault.{HasLines, HasLongLine, InSection, IsAt, IsBehind, IsFirst, IsWrongSection, MissesSection}
-use Rattle.ppp_trace.specs.FullTrace.{FirstLong, IsCount, IsLong, IsSection, Line, NoSection, SaysCount}
+use Rattle.ppp_trace.specs.FullFault.{HasLines, InSection, IsAt, IsFirst, MissesSection}
+use Rattle.ppp_trace.specs.FullTrace.{FirstLong, IsLong, IsSection, Line, SaysCount}
 use Rattle.ppp_mark.specs.Lines.{lines_of}
 use Rattle.ppp_trace.specs.Sections.{ReadsSection, StartFault, TellsStart, There}
 use Rattle.ppp_trace.specs.declared.TheConstants.{MOST_OCTETS}

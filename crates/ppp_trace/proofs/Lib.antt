@@ -3,7 +3,9 @@ pub mod FaultLemmas
 pub mod FullLemmas
 pub mod NumberLemmas
 pub mod OnceLemmas
+pub mod PartLemmas
 pub mod SectionLemmas
 pub mod SignalLemmas
 pub mod StepLemmas
+pub mod TellLemmas
 pub mod TraceLemmas

@@ -1,5 +1,5 @@
 -- Sections of a full trace.
-use Rattle.std.proofs.Common.{◌≡◌, ◌≢◌, MatchOption, drop, ℕ, zero, suc, ◌+◌, ◌<◌, ◌≤◌, ◌⊎◌, Bool, true, false, List, [], ◌∷◌, ◌++◌, length, Option, None, Some, refl, ap, sym, subst, ◌∙◌, arith, inl, inr, flat_map, get_or, slice_get, append_assoc, append-nil, length-append}
+use Rattle.std.proofs.Common.{◌≡◌, ◌≢◌, MatchOption, drop, ℕ, zero, suc, ◌+◌, ◌<◌, ◌≤◌, ◌⊎◌, Bool, true, false, List, [], ◌∷◌, ◌++◌, length, Option, None, Some, refl, ap, sym, subst, ◌∙◌, arith, inl, inr, get_or, slice_get, append_assoc, append-nil, length-append}
 use Rattle.std.specs.List.{list_all}
 use Rattle.std.specs.Prelude.{nat_lt, min, ◌*◌, ◌==◌, ◌&&◌, if◌then◌else◌, option_map, IfSome}
 use Rattle.std.proofs.Math.Seq.{drop-append_seam}
@@ -143,7 +143,7 @@ not_spaced name line behind named other n says = other says.digits (sym (cancel 
 
 -- ---- a section
 
-lines_few : (xs : List ℕ) → length (lines_of xs) ≤ length xs
+pub lines_few : (xs : List ℕ) → length (lines_of xs) ≤ length xs
 lines_few [] = omega arith
 lines_few (b ∷ bs) = elim (eqb_tells b 10) [
   | inl p ↦ rw p.0 (omega (arith, lines_few bs))

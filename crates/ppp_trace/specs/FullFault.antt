@@ -1,13 +1,11 @@
 -- What is wrong with octets that are no full trace.
-use Rattle.std.specs.Prelude.{◌≡◌, ◌≢◌, ℕ, ◌+◌, ◌<◌, ◌≤◌, ◌^◌, ◌⊎◌, Option, Some, Result, Ok, Err, List, [], ◌∷◌, ◌++◌, length, codes, slice_get}
+use Rattle.std.specs.Prelude.{◌≡◌, ℕ, ◌+◌, ◌<◌, ◌≤◌, ◌^◌, ◌⊎◌, Some, Result, Ok, Err, List, [], ◌∷◌, ◌++◌, length, codes, slice_get}
 use Rattle.std.specs.Fmt.{decimal}
 use Rattle.ppp_mark.specs.Lines.{lines_of}
 use Rattle.ppp_option_words.specs.ConfigValues.{ConfigValues}
 use Rattle.ppp_option_words.specs.declared.fault.OptionsFault.{OptionsFault}
 use Rattle.ppp_options.specs.ConfigOf.{ReadOf}
-use Rattle.ppp_secrets.specs.SecretLine.{SecretLine}
 use Rattle.ppp_secrets.specs.Reading.{secrets_of}
-use Rattle.ppp_secrets.specs.declared.fault.SecretsFault.{SecretsFault}
 use Rattle.ppp_trace.specs.FirstFault.{NotBehind}
 use Rattle.ppp_trace.specs.FullSteps.{IsNoFullStep}
 use Rattle.ppp_trace.specs.FullTrace.{IsLong, IsSection, Line, NoSection, SaysCount, text_of}

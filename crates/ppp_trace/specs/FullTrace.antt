@@ -1,8 +1,7 @@
 -- A full trace as it is spelled: the line `full SEED`, three sections, and steps. A section is a line with its name and
 -- how many lines follow, and these.
-use Rattle.std.specs.Prelude.{◌≡◌, ℕ, ◌+◌, ◌<◌, ◌≤◌, ◌^◌, true, Option, None, Some, Result, Ok, Err, List, [], ◌∷◌, ◌++◌, length, codes, slice_get}
+use Rattle.std.specs.Prelude.{◌≡◌, ℕ, ◌<◌, ◌≤◌, true, Option, None, Some, List, [], ◌∷◌, ◌++◌, length, slice_get}
 use Rattle.std.specs.List.{flat_map, list_all}
-use Rattle.std.specs.Fmt.{decimal}
 use Rattle.ppp_base.specs.Numbers.{is_digit, may_be_number, value_behind}
 use Rattle.ppp_base.specs.declared.numbers.LeadingZeros.TheVariants.{Refused}
 use Rattle.ppp_trace.specs.declared.TheConstants.{MOST_LINE}

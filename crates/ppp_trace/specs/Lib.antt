@@ -9,3 +9,4 @@ pub mod FullTrace
 pub mod FullFault
 pub mod Sections
 pub mod Parts
+pub mod IsTrace

@@ -29,8 +29,3 @@ pub fn no_trace_has_a_fault()
 pub fn trace_is_short()
     ensures { (octets : List ℕ) (steps : List BareStep) → IsBareTrace octets steps → length octets ≤ 5 + 31 * length steps }
 {}
-
-/// scratch
-pub fn scratch()
-    ensures { (octets : List ℕ) → octets ≡ octets }
-{}

@@ -3,8 +3,8 @@ ghost use Rattle.std.specs.String.{string_bytes};
 ghost use Rattle.ppp_option_words.specs.Answers.{Gives};
 ghost use Rattle.ppp_mark.specs.Lines.{lines_of};
 ghost use Rattle.ppp_secrets.specs.Reading.{secrets_of};
-ghost use Rattle.ppp_trace.specs.FullFault.{options_in};
-ghost use Rattle.ppp_trace.specs.Parts.{TellsOptions, TellsSecrets, TellsSteps, AreSteps};
+ghost use Rattle.ppp_trace.specs.FullFault.{IsWrongStep, options_in};
+ghost use Rattle.ppp_trace.specs.Parts.{TellsOptions, TellsSecrets, Tells, AreSteps};
 ghost use Rattle.ppp_trace.specs.declared.TheConstants.{MOST_OCTETS};
 
 use crate::MOST_FULL_STEPS;
@@ -30,17 +30,17 @@ fn file_words(alloc: Global) -> Result<Vec<String>, NoMemory>
 }
 
 // What options are, by words and the file.
-fn options(alloc: Global, text: Vec<u8>) -> Result<Config, OptionsFault>
-    ensures { Gives (λ config. config) result (options_in text.items) }
+fn options(alloc: Global, text: &[u8]) -> Result<Config, OptionsFault>
+    ensures { Gives (λ config. config) result (options_in text.now) }
 {
     let words = file_words(alloc)?;
-    let mut file = TraceFile::new(text);
+    let mut file = TraceFile::new(Vec::from_slice(alloc, text)?);
     read_options(alloc, words.as_slice(), &mut file)
 }
 
 /// The options whose section stands at this line.
-pub fn options_at(alloc: Global, text: Vec<u8>, line: u64) -> Result<Config, TraceFault>
-    ensures { MatchResult result (λ config. options_in text.items ≡ Ok config) (TellsOptions line text.items) }
+pub fn options_at(alloc: Global, text: &[u8], line: u64) -> Result<Config, TraceFault>
+    ensures { MatchResult result (λ config. options_in text.now ≡ Ok config) (TellsOptions line text.now) }
 {
     match options(alloc, text) {
         Ok(config) => Ok(config),
@@ -63,16 +63,16 @@ pub fn secrets_at(alloc: Global, text: &[u8], line: u64) -> Result<Secrets, Trac
 /// Looks at the steps behind so many lines.
 pub fn check_steps(text: &[u8], links: u8, line: u64) -> Result<(), TraceFault>
     requires { links ≤ 16 }
-    ensures { line + length (lines_of text.now) ≤ MOST_OCTETS → MatchResult result (λ _. AreSteps links (lines_of text.now)) (TellsSteps links line (lines_of text.now)) }
+    ensures { line + length (lines_of text.now) ≤ MOST_OCTETS → MatchResult result (λ _. AreSteps links (lines_of text.now)) (Tells (IsWrongStep links line (lines_of text.now))) }
 {
     let mut rest = text;
     let mut count = 0usize;
     'lines: while !rest.is_empty() {
         let (first, others) = first_line(rest);
         let at = line.saturating_add(1).saturating_add(count as u64);
-        if read_step(first, links).is_none() {
+        let Some(_step) = read_step(first, links) else {
             return Err(bad_at(at, FaultKind::Step));
-        }
+        };
         if count >= MOST_FULL_STEPS {
             return Err(bad_at(at, FaultKind::Steps));
         }

@@ -1,11 +1,9 @@
-use Rattle.std.proofs.Common.{◌≡◌, ◌∙◌, ℕ, ◌<◌, ◌≤◌, ◌+◌, ◌*◌, ◌-◌, ◌==◌, List, true, min, get_or, take, length, refl, ap, sym, subst, arith, inl, inr}
+use Rattle.std.proofs.Common.{◌≡◌, ◌∙◌, ℕ, ◌<◌, ◌≤◌, ◌+◌, ◌-◌, List, true, min, get_or, take, length, refl, ap, sym, subst, arith, inl, inr}
 use Rattle.std.proofs.Math.Seq.{take-length}
 use Rattle.std.proofs.lemmas.Bool.Decides.{eqb_tells, nat_tests}
-use Rattle.std.specs.Prelude.{◌&&◌, nat_le}
 use Rattle.ppp_base.specs.Numbers.{is_digit, value_behind}
 use Rattle.ppp_report.proofs.NumberLemmas.{all_from, value_goes_on}
-use Rattle.ppp_trace.specs.FullTrace.{IsCount}
-use Rattle.ppp_trace.proofs.SectionLemmas.{all_at, not_digit, saturates}
+use Rattle.ppp_trace.proofs.SectionLemmas.{saturates}
 use Rattle.ppp_trace.proofs.sections.count_of.Goals as goal
 
 is_one : (octet : ℕ) → 48 ≤ octet → octet ≤ 57 → is_digit octet ≡ true

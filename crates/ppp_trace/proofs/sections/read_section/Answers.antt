@@ -1,4 +1,4 @@
-use Rattle.std.proofs.Common.{◌≡◌, ◌≤◌, ℕ, length, refl, sym, ◌∙◌, arith}
+use Rattle.std.proofs.Common.{arith}
 use Rattle.ppp_mark.specs.Lines.{lines_of}
 use Rattle.ppp_trace.proofs.SectionLemmas.{long_room, no_section, reads_section}
 use Rattle.ppp_trace.proofs.sections.read_section.Goals as goal

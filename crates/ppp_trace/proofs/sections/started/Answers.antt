@@ -1,4 +1,4 @@
-use Rattle.std.proofs.Common.{◌≡◌, ◌∙◌, ◌+◌, ap, min}
+use Rattle.std.proofs.Common.{◌∙◌, ◌+◌, ap, min}
 use Rattle.ppp_trace.proofs.FaultLemmas.{lacks_header, lacks_long}
 use Rattle.ppp_trace.proofs.sections.started.Goals as goal
 

@@ -1,4 +1,4 @@
-use Rattle.std.proofs.Common.{◌≡◌, ◌∷◌, ◌++◌, ◌+◌, ◌<◌, ◌==◌, ℕ, zero, suc, true, false, List, [], None, subst, refl, sym, ap, ◌∙◌, arith, length}
+use Rattle.std.proofs.Common.{◌≡◌, ◌∷◌, ◌++◌, ◌+◌, ◌==◌, ℕ, true, [], None, subst, sym, ap, ◌∙◌, arith, length}
 use Rattle.std.proofs.lemmas.Bool.Decides.{nat_tests}
 use Rattle.ppp_trace.proofs.SectionLemmas.{Taken, taken_more, taken_none}
 use Rattle.ppp_trace.proofs.TraceLemmas.{no_octets}

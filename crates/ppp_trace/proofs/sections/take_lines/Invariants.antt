@@ -1,4 +1,4 @@
-use Rattle.std.proofs.Common.{◌-◌, ◌≤◌, ℕ}
+use Rattle.std.proofs.Common.{◌-◌, ◌≤◌}
 use Rattle.ppp_trace.proofs.SectionLemmas.{Taken}
 use Rattle.ppp_trace.proofs.sections.take_lines.Given as goal
 
