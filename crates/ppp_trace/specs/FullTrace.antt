@@ -42,13 +42,6 @@ pub record IsSection (name : Line) (lines own others : List Line) : Type 0 where
   pub says : SaysCount name line (length own)
   pub text : lines ≡ line ∷ (own ++ others)
 
--- Lines of the section are missing.
-pub record LacksLines (name : Line) (lines : List Line) (line : Line) (own : List Line) : Type 0 where
-  pub n : ℕ
-  pub says : SaysCount name line n
-  pub few : length own < n
-  pub text : lines ≡ line ∷ own
-
 -- No line of such a section is first.
 abbrev pub NoSection : Line → List Line → Type 0
 NoSection name lines = (line : Line) (others : List Line) (n : ℕ) → SaysCount name line n → lines ≡ line ∷ others → ⊥
