@@ -113,7 +113,7 @@ decimal_form n fits = formed (may_be_number Refused (decimal n)) _ n (decimal_ba
 pub decimal_value : (n : ℕ) → n < 2 ^ 64 → value_behind 0 (decimal n) ≡ n
 decimal_value n fits = digits_value-decimal own n fits
 
-digit_range : (d : ℕ) → is_digit d ≡ true → (48 ≤ d) × (d ≤ 57)
+pub digit_range : (d : ℕ) → is_digit d ≡ true → (48 ≤ d) × (d ≤ 57)
 digit_range d is = grind (arith, nat_tests)
 
 -- What stands before an octet that is no digit, where that is the second.

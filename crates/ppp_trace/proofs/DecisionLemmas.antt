@@ -1,5 +1,5 @@
 -- Any octets are a trace, or they have a first fault.
-use Rattle.std.proofs.Common.{◌≡◌, ◌≢◌, ℕ, zero, suc, ◌+◌, ◌*◌, ◌<◌, ◌≤◌, ◌^◌, ◌⊎◌, Bool, true, false, List, [], ◌∷◌, ◌++◌, length, Option, None, Some, MatchOption, codes, decimal, drop, refl, ap, sym, subst, ◌∙◌, arith, inl, inr, flat_map, length-append}
+use Rattle.std.proofs.Common.{◌≡◌, ◌≢◌, ℕ, zero, suc, ◌+◌, ◌*◌, ◌<◌, ◌≤◌, ◌^◌, ◌⊎◌, true, List, [], ◌∷◌, ◌++◌, length, Option, None, Some, MatchOption, codes, decimal, drop, refl, ap, sym, ◌∙◌, arith, inl, inr, flat_map, length-append}
 use Rattle.std.proofs.lemmas.Bool.{cases_lt}
 use Rattle.std.proofs.lemmas.Bool.Decides.{eqb_tells}
 use Rattle.ppp_base.specs.Numbers.{number_of}
@@ -19,7 +19,7 @@ use Rattle.ppp_trace.specs.declared.step.BareStep.TheVariants as steps
 use Rattle.ppp_trace.proofs.FullLemmas.{split_same}
 use Rattle.ppp_trace.proofs.NumberLemmas.{number_cases}
 use Rattle.ppp_trace.proofs.StepLemmas.{end_word, event_of, event_word, no_step, step_is_short}
-use Rattle.ppp_trace.proofs.TraceLemmas.{SoFar, fault_no_step, fault_too_many, header_first, no_octets, nothing_first, so_far_all, so_far_more, so_far_none}
+use Rattle.ppp_trace.proofs.TraceLemmas.{SoFar, fault_no_step, fault_too_many, header_first, nothing_first, so_far_all, so_far_more, so_far_none}
 
 -- what follows a front, if it stands there
 abbrev Behind : List ℕ → List ℕ → Type 0

@@ -1,7 +1,6 @@
 -- A trace has one list of steps and no fault, and octets have one first fault.
 use Rattle.std.proofs.Common.{◌≡◌, ℕ, ◌<◌, true, false, List, [], ◌∷◌, ◌++◌, length, map, Some, refl, ap, ap₂, sym, subst, ◌∙◌, inl, inr, arith, append_assoc, append-nil, get_or, drop, decimal, codes, flat_map, slice_get, suc}
 use Rattle.std.proofs.Math.Dec.{eqb}
-use Rattle.std.proofs.lemmas.Bool.Decides.{eqb_tells}
 use Rattle.std.proofs.lemmas.Fmt.{decimal_injective}
 use Rattle.std.proofs.lemmas.Option.{same_Some, slice_get_within}
 use Rattle.ppp_fsm.specs.declared.event.FsmEvent.{FsmEvent}
@@ -61,7 +60,7 @@ no_fault octets ss bad trace fault =
     ]
 
 abbrev kinds : List FaultKind
-kinds = kind.Size ∷ kind.Empty ∷ kind.Header ∷ kind.Step ∷ kind.Long ∷ kind.Steps ∷ []
+kinds = kind.Size ∷ kind.Empty ∷ kind.Header ∷ kind.Step ∷ kind.Long ∷ kind.Steps ∷ kind.Options ∷ kind.Secrets ∷ []
 
 ranked : (k : FaultKind) → slice_get kinds (rank k) ≡ Some k
 ranked kind.Size = refl
@@ -70,6 +69,8 @@ ranked kind.Header = refl
 ranked kind.Step = refl
 ranked kind.Long = refl
 ranked kind.Steps = refl
+ranked kind.Options = refl
+ranked kind.Secrets = refl
 
 same_bad : (a b : BadTrace) → a.line ≡ b.line → rank a.kind ≡ rank b.kind → a ≡ b
 same_bad a b line order =

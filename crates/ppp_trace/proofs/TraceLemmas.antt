@@ -39,6 +39,8 @@ header_right number line kind.Long first header wrong =
     let short : length line ≡ 4 = ap length header in
     omega (arith, wrong, short)
 header_right number line kind.Steps first header wrong = omega (arith, wrong, first)
+header_right number line kind.Options first header wrong = wrong
+header_right number line kind.Secrets first header wrong = wrong
 
 -- Nothing is wrong with a step that isn't past the limit.
 step_right : (number : ℕ) (line : List ℕ) (s : BareStep) (k : FaultKind) → 1 < number → number ≤ MOST_STEPS + 1 → Spells line s → IsWrong k number line → ⊥
@@ -48,6 +50,8 @@ step_right number line s kind.Header low high spells wrong = omega (arith, wrong
 step_right number line s kind.Step low high spells wrong = wrong.1 s spells
 step_right number line s kind.Long low high spells wrong = omega (arith, wrong, spells_short line s spells)
 step_right number line s kind.Steps low high spells wrong = omega (arith, wrong, high)
+step_right number line s kind.Options low high spells wrong = wrong
+step_right number line s kind.Secrets low high spells wrong = wrong
 
 -- Nothing is wrong with the header and with the steps behind it.
 pub right_before : (steps : List BareStep) (others : List (List ℕ)) (place : ℕ) (line : List ℕ) (k : FaultKind) → length steps ≤ MOST_STEPS → AreSteps steps → place ≤ length steps → slice_get (codes "bare" ∷ (map word_of_step steps ++ others)) place ≡ Some line → IsWrong k (place + 1) line → ⊥
@@ -90,6 +94,8 @@ no_step_lowest number line kind.Header low wrong = absurd (omega (arith, wrong.0
 no_step_lowest number line kind.Step low wrong = omega arith
 no_step_lowest number line kind.Long low wrong = omega arith
 no_step_lowest number line kind.Steps low wrong = omega arith
+no_step_lowest number line kind.Options low wrong = absurd wrong
+no_step_lowest number line kind.Secrets low wrong = absurd wrong
 
 step_lowest : (number : ℕ) (line : List ℕ) (s : BareStep) (k : FaultKind) → 1 < number → Spells line s → IsWrong k number line → rank kind.Steps ≤ rank k
 step_lowest number line s kind.Size low spells wrong = absurd wrong
@@ -98,6 +104,8 @@ step_lowest number line s kind.Header low spells wrong = absurd (omega (arith, w
 step_lowest number line s kind.Step low spells wrong = absurd (wrong.1 s spells)
 step_lowest number line s kind.Long low spells wrong = absurd (omega (arith, wrong, spells_short line s spells))
 step_lowest number line s kind.Steps low spells wrong = omega arith
+step_lowest number line s kind.Options low spells wrong = absurd wrong
+step_lowest number line s kind.Secrets low spells wrong = absurd wrong
 
 header_lowest : (number : ℕ) (line : List ℕ) (k : FaultKind) → IsWrong k number line → rank kind.Header ≤ rank k
 header_lowest number line kind.Size wrong = absurd wrong
@@ -106,6 +114,8 @@ header_lowest number line kind.Header wrong = omega arith
 header_lowest number line kind.Step wrong = omega arith
 header_lowest number line kind.Long wrong = omega arith
 header_lowest number line kind.Steps wrong = omega arith
+header_lowest number line kind.Options wrong = absurd wrong
+header_lowest number line kind.Secrets wrong = absurd wrong
 
 -- the first fault of no octets
 pub nothing_first : (octets : List ℕ) → octets ≡ [] → FirstFault octets (record { line = 1; kind = kind.Empty })

@@ -15,6 +15,8 @@ rank kind.Header = 2
 rank kind.Step = 3
 rank kind.Long = 4
 rank kind.Steps = 5
+rank kind.Options = 6
+rank kind.Secrets = 7
 
 -- What is wrong with the line of this number, of which the first is 1: the first one isn't the header, another one is no
 -- step, it is too long, or it stands where no step may stand any more.
@@ -25,6 +27,8 @@ IsWrong kind.Header number line = (number ≡ 1) × (line ≢ codes "bare")
 IsWrong kind.Step number line = (1 < number) × IsNoStep line
 IsWrong kind.Long number line = MOST_LINE < length line
 IsWrong kind.Steps number line = MOST_STEPS + 1 < number
+IsWrong kind.Options number line = ⊥
+IsWrong kind.Secrets number line = ⊥
 
 -- The line of this number is one of these lines, and this is wrong with it.
 pub record HasWrongLine (lines : List (List ℕ)) (bad : BadTrace) : Type 0 where

@@ -1,6 +1,6 @@
 -- How a step of a full trace is spelled: one space between words, numbers in decimal without leading zeros, octets as
 -- hexadecimal digits of either case.
-use Rattle.std.specs.Prelude.{◌≡◌, ℕ, ◌<◌, ◌≤◌, ◌^◌, List, [], ◌∷◌, ◌++◌, length, codes}
+use Rattle.std.specs.Prelude.{◌≡◌, ℕ, ◌<◌, ◌≤◌, ◌^◌, List, ◌∷◌, ◌++◌, length, codes}
 use Rattle.std.specs.Fmt.{decimal}
 use Rattle.ppp_base.specs.Hex.{IsHexText, IsHexOf}
 use Rattle.ppp_base.specs.declared.signal_word.SignalWord.{SignalWord}

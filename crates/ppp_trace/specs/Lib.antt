@@ -5,3 +5,8 @@ pub mod FirstFault
 pub mod Reads
 pub mod FaultLine
 pub mod FullSteps
+pub mod FullTrace
+pub mod FullFault
+pub mod Sections
+pub mod Parts
+pub mod IsTrace

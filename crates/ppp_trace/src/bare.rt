@@ -99,8 +99,8 @@ fn steps(alloc: Global, text: &[u8]) -> Result<Vec<BareStep>, TraceFault>
     Ok(steps)
 }
 
-// A fault of this line.
-fn bad(line: u32, kind: FaultKind) -> TraceFault
+/// A fault of this line.
+pub fn bad(line: u32, kind: FaultKind) -> TraceFault
     ensures { result ≡ Bad (record { line = line; kind = kind }) }
 {
     TraceFault::Bad(BadTrace { line, kind })

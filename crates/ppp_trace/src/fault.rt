@@ -27,6 +27,12 @@ pub enum FaultKind {
     /// A step is past the limit.
     #[error("steps")]
     Steps,
+    /// The options can't be read.
+    #[error("options")]
+    Options,
+    /// Secrets can't be read.
+    #[error("secrets")]
+    Secrets,
 }
 
 /// A fault of a trace, and its line, of which the first is 1.
@@ -57,6 +63,8 @@ fn kind_word(kind: FaultKind) -> &'static [u8]
         FaultKind::Step => b"step",
         FaultKind::Long => b"long",
         FaultKind::Steps => b"steps",
+        FaultKind::Options => b"options",
+        FaultKind::Secrets => b"secrets",
     }
 }
 

@@ -4,8 +4,10 @@
 //! is, by its spelling, and `specs/FirstFault.antt` what is wrong with octets that are none. `laws` has that a trace has
 //! one list of steps alone, octets have one first fault alone, and octets with a fault are no trace.
 //!
-//! Of full traces, which tell what happens to links, units and the table, `read_step` reads the line of a step
-//! (`specs/FullSteps.antt`).
+//! A full trace is the line `full` with a seed, the sections `options`, `pap` and `chap`, and a line for each thing that
+//! happens to a link, a unit or the table. `read_trace` answers what it says, or its first fault; `read_step` reads the
+//! line of a step. `specs/FullTrace.antt` says what a section is, `FullSteps.antt` how a step is spelled, and
+//! `FullFault.antt` what is wrong with octets that are none.
 #![tactic(auto)]
 
 mod bare;
@@ -15,9 +17,13 @@ mod full_step;
 pub mod laws;
 mod link_step;
 mod link_word;
+mod parts;
+mod sections;
 mod step;
 #[cfg(test)]
 mod tests;
+mod trace;
+mod trace_file;
 mod words;
 mod world_step;
 
@@ -26,10 +32,14 @@ pub use fault::{BadTrace, FaultKind, TraceFault, fault_text};
 pub use full_step::read_step;
 use ppp_fsm::FsmEvent;
 pub use step::BareStep;
+pub use trace::{Trace, read_trace};
 pub use world_step::{LineOctets, WorldStep};
 
 /// How many steps a bare trace has at most.
 pub const MOST_STEPS: usize = 100_000;
+
+/// How many steps a full trace has at most.
+pub const MOST_FULL_STEPS: usize = 1_000_000;
 
 /// How many octets a trace has at most.
 pub const MOST_OCTETS: u32 = 67_108_864;

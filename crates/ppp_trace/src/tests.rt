@@ -1,5 +1,6 @@
 use crate::{
     BadTrace, BareStep, FaultKind, TraceFault, WorldStep, fault_text, read_bare, read_step,
+    read_trace,
 };
 use ppp_fsm::FsmEvent;
 use ppp_outside::ScriptEnd;
@@ -208,4 +209,90 @@ fn keeps_what_a_step_says(rt: HostRuntime) -> Result<(), Fail> {
         }
         _ => Err(Fail::from("not these octets")),
     }
+}
+
+// The line that tells the fault of a full trace, and nothing where it is one.
+fn told_of_full(alloc: Global, input: &[u8]) -> Result<Vec<u8>, Fail> {
+    match read_trace(alloc, input) {
+        Ok(_) => Ok(Vec::new(alloc)),
+        Err(TraceFault::Bad(bad)) => Ok(Vec::from_slice(alloc, fault_text(bad).as_slice())?),
+        Err(TraceFault::NoMemory(_)) => Ok(Vec::from_slice(alloc, b"no memory")?),
+    }
+}
+
+#[test]
+fn tells_the_first_fault_of_a_full_trace(rt: HostRuntime) -> Result<(), Fail> {
+    let rows = [
+        (
+            "full 1\noptions 1\nsocket h:1\npap 0\nchap 0\n1 begin\n1 dial fail\n",
+            "",
+        ),
+        (
+            "full 1\noptions 1\nsocket h:1\npap 0\nchap 1\na b c\ntick 5",
+            "",
+        ),
+        ("", "bad trace: line 1: empty\n"),
+        ("bare\nopen", "bad trace: line 1: header\n"),
+        ("full 18446744073709551616\n", "bad trace: line 1: header\n"),
+        ("full 1\n", "bad trace: line 2: header\n"),
+        ("full 1\noptions 01\n", "bad trace: line 2: header\n"),
+        (
+            "full 1\noptions 2\nsocket h:1\n",
+            "bad trace: line 4: header\n",
+        ),
+        (
+            "full 1\noptions 99999999999999999999\nfrob\n",
+            "bad trace: line 4: header\n",
+        ),
+        (
+            "full 1\noptions 1\nfrob\npap 0\n",
+            "bad trace: line 2: options\n",
+        ),
+        (
+            "full 1\noptions 1\nfile trace\npap 0\n",
+            "bad trace: line 2: options\n",
+        ),
+        (
+            "full 1\noptions 1\nsocket h:1\npap 1\na\nchap 0\n",
+            "bad trace: line 4: secrets\n",
+        ),
+        (
+            "full 1\noptions 1\nsocket h:1\npap 0\nchap 1\na\n",
+            "bad trace: line 5: secrets\n",
+        ),
+        (
+            "full 1\noptions 1\nsocket h:1\npap 0\nchap 0\n2 begin\n",
+            "bad trace: line 6: step\n",
+        ),
+    ];
+    for (input, wanted) in rows {
+        let told = told_of_full(rt.alloc(), input.as_bytes())?;
+        assert!(rt; told.as_slice() == wanted.as_bytes(), "{input}");
+    }
+    Ok(())
+}
+
+#[test]
+fn tells_a_line_that_is_too_long(rt: HostRuntime) -> Result<(), Fail> {
+    let mut input = Vec::from_slice(rt.alloc(), b"full 1\noptions 2\nsocket h:1\n#")?;
+    for _octet in 0..8192u32 {
+        input.push(b'x')?;
+    }
+    input.extend_from_slice(b"\npap 0\nchap 0\n")?;
+    let told = told_of_full(rt.alloc(), input.as_slice())?;
+    assert_eq!(rt; told.as_slice(), b"bad trace: line 4: long\n".as_slice());
+    Ok(())
+}
+
+#[test]
+fn keeps_what_a_trace_says(rt: HostRuntime) -> Result<(), Fail> {
+    let input =
+        b"full 7\noptions 3\nmru 1400\nlink socket a:1\nlink socket b:1\npap 0\nchap 0\n2 begin\n";
+    let Ok(trace) = read_trace(rt.alloc(), input) else {
+        return Err(Fail::from("a trace"));
+    };
+    assert_eq!(rt; trace.seed, 7);
+    assert_eq!(rt; trace.config.links.as_slice().len(), 2);
+    assert_eq!(rt; trace.steps.as_slice(), b"2 begin\n".as_slice());
+    Ok(())
 }
