@@ -1,0 +1,10 @@
+mod Apart
+mod Bundles
+mod Joins
+mod Members
+mod NewUnits
+mod Places
+mod Steps
+mod Tellings
+mod Ticks
+mod Wholes

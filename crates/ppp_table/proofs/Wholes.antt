@@ -1,0 +1,64 @@
+-- What stays so of a table from step to step of a unit.
+use Rattle.std.proofs.Common.{◌≡◌, ℕ, Option, None, Some, IfSome, List, [], ◌∷◌, length, slice_get, refl, ap, sym, subst, ◌∙◌, arith}
+use Rattle.ppp_base.specs.Stepped.{IfStale, OnTaken}
+use Rattle.ppp_base.specs.declared.stepped.Stepped.{Stepped}
+use Rattle.ppp_base.specs.declared.stepped.Stepped.TheVariants.{Taken, Stale}
+use Rattle.ppp_hooks.specs.HookState.{DoneState}
+use Rattle.ppp_base.specs.Mrru.{MrruPair}
+use Rattle.ppp_base.specs.declared.allow.Allow.{Allow}
+use Rattle.ppp_unit_parts.specs.declared.wish.UnitWish.{UnitWish}
+use Rattle.ppp_unit_parts.specs.Member.{member, stay_of}
+use Rattle.ppp_bundle.specs.declared.event.BundleEvent.{BundleEvent}
+use Rattle.ppp_bundle.specs.declared.event.BundleEvent.TheVariants.{Make, In, Out, Frame, Datagram, Tick, HookOver}
+use Rattle.ppp_bundle.specs.State.{UnitState, members_of}
+use Rattle.ppp_table.specs.declared.stays.Stay.{Stay}
+use Rattle.ppp_table.specs.Fits.{AreApart, IsWhole}
+use Rattle.ppp_table.specs.TableState.{AreDrained, TableState, stay_in}
+use Rattle.ppp_table.specs.Told.{entering}
+use Rattle.ppp_table.specs.UnitStep.{UnitStep}
+use Rattle.ppp_table.proofs.Apart.{Comes, ComesApart, IsIn, IsNowhere, apart_after, found_there}
+
+pub whole_after : {S : Type 0} (n : ℕ) (event : BundleEvent S) (old new : TableState S) → UnitStep n event old new → AreApart old.units → ComesApart event old
+    → length new.units ≡ 16 → AreDrained new.units → IsWhole new
+whole_after n event old new step apart comes sixteen drained = record { sixteen = sixteen; drained = drained; apart = apart_after n event old new step apart comes }
+
+pub whole_out : {S : Type 0} (s : Stay) (link : ℕ) (old new : TableState S) → UnitStep s.unit (Out link s.stay) old new → IsWhole old → length new.units ≡ 16 → AreDrained new.units → IsWhole new
+whole_out s link old new step w sixteen drained = whole_after s.unit (Out link s.stay) old new step w.apart (λ x a c i. absurd c) sixteen drained
+
+pub whole_frame : {S : Type 0} (unit link protocol : ℕ) (information : List ℕ) (old new : TableState S) → UnitStep unit (Frame link protocol information) old new → IsWhole old → length new.units ≡ 16 → AreDrained new.units → IsWhole new
+whole_frame unit link protocol information old new step w sixteen drained = whole_after unit (Frame link protocol information) old new step w.apart (λ x a c i. absurd c) sixteen drained
+
+-- Who goes out is where it was found.
+pub may_go : {S : Type 0} (s : Stay) (link : ℕ) (t : TableState S) → stay_in link t ≡ Some s → IfSome (slice_get t.units s.unit) (λ u. stay_of link (members_of u.live) ≡ Some s.stay)
+may_go s link t e = (found_there s link t e).0
+
+-- One that was nowhere comes in.
+pub whole_in : {S : Type 0} (unit link stay mru : ℕ) (old new : TableState S) → UnitStep unit (In link stay mru) old new → AreApart old.units → IsNowhere link old.units → length new.units ≡ 16 → AreDrained new.units → IsWhole new
+whole_in {S = S} unit link stay mru old new step apart none sixteen drained =
+    whole_after unit (In link stay mru) old new step apart (λ x a c i. none a (subst (λ (k : ℕ). IsIn k a old.units) c i)) sixteen drained
+
+pub apart_made : {S : Type 0} (unit number maker : ℕ) (wish : UnitWish) (mrru : Option MrruPair) (allow : Allow) (old mid : TableState S)
+    → UnitStep unit (Make number maker wish mrru allow) old mid → AreApart old.units → AreApart mid.units
+apart_made unit number maker wish mrru allow old mid step apart = apart_after unit (Make number maker wish mrru allow) old mid step apart (λ x a c i. absurd c)
+
+pub same_links : {S : Type 0} (n : ℕ) (event : BundleEvent S) (old new : TableState S) → UnitStep n event old new → new.links ≡ old.links
+same_links n event old new s = ap (λ t. t.links) s.after
+
+-- Where no link comes in, a table stays whole.
+none_comes : {S : Type 0} (event : BundleEvent S) (x : ℕ) → entering event ≡ [] → Comes event x → ⊥
+none_comes (In link stay mru) x e c = absurd (let f : member link stay mru ∷ [] ≡ [] = e in cc)
+none_comes (Make number maker wish mrru allow) x e c = c
+none_comes (Out link stay) x e c = c
+none_comes (Frame link protocol information) x e c = c
+none_comes (Datagram datagram) x e c = c
+none_comes (Tick now) x e c = c
+none_comes (HookOver done) x e c = c
+
+pub whole_keeps : {S : Type 0} (n : ℕ) (event : BundleEvent S) (old new : TableState S) → UnitStep n event old new → IsWhole old → entering event ≡ [] → length new.units ≡ 16 → AreDrained new.units → IsWhole new
+whole_keeps n event old new step w none sixteen drained = whole_after n event old new step w.apart (λ x a c i. none_comes event x none c) sixteen drained
+
+-- where a script's end is taken, and where it isn't
+pub whole_over : {S : Type 0} {E : Type 0} {F : E → Type 0} (r : Stepped E) (n : ℕ) (done : DoneState S) (old new : TableState S) → OnTaken r (UnitStep n (HookOver done) old new) → IfStale r F → ((e : E) → F e → new ≡ old)
+    → IsWhole old → length new.units ≡ 16 → AreDrained new.units → IsWhole new
+whole_over Taken n done old new step stale same w sixteen drained = whole_after n (HookOver done) old new step w.apart (λ x a c i. absurd c) sixteen drained
+whole_over (Stale e) n done old new step stale same w sixteen drained = rw (same e stale) w

@@ -1,0 +1,13 @@
+pub use Rattle.ppp_base.specs.RingAfter
+pub use Rattle.ppp_bundle.specs.UnitPart
+pub use Rattle.ppp_table_parts.specs.Side
+pub use Rattle.ppp_table_parts.specs.Sides
+pub mod TableState
+pub mod Told
+pub mod UnitStep
+pub mod Asking
+pub mod TablePart
+pub mod Verdicts
+pub mod PostPart
+pub mod Fits
+pub mod Begins
