@@ -1,0 +1,5 @@
+use Rattle.ppp_link_core.proofs.AuthFacts.{called_does}
+use Rattle.ppp_link_core.proofs.link_core.LinkCore.hear_packet.Goals as goal
+
+pub returns-clause-does : goal.returns-clause-does
+returns-clause-does g c = called_does c.ask_packet-out.ensures.does c.ask_packet-out.ensures.answer c.follow_phase.ensures.does
