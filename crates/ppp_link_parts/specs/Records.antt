@@ -120,13 +120,6 @@ log_answered (answer.Finish status) time log = added (finished_mark time status)
 abbrev pub answer_marked : {S : Type 0} → DialNow → ℕ → RecordsNow S → RecordsNow S
 answer_marked answer time r = record r { scripts = record r.scripts { log = log_answered answer time r.scripts.log } }
 
-abbrev pub is_begin : DialNow → Bool
-is_begin answer.Nothing = false
-is_begin answer.Begin = true
-is_begin (answer.Hold milliseconds) = false
-is_begin answer.Wait = false
-is_begin (answer.Finish status) = false
-
 -- what it answers to a call
 abbrev pub says : {S : Type 0} → LineWords → CallKind → ℕ → RecordsNow S → DialNow
 says line kind time r = answer_to r.dial.policy (so_far nothing_yet (dialled_in line r.scripts.log.limit r.scripts.log.past)) (asked kind time (room_of r.scripts.log))
