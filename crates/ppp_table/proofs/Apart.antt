@@ -126,7 +126,7 @@ event_has (HookOver done) x o e = inl e
 
 -- WHO IS IN WHICH UNIT AFTER A STEP
 
-set_get : {A : Type 0} (xs : List A) (n a : ℕ) (y z : A) → slice_get xs n ≡ Some z
+pub set_get : {A : Type 0} (xs : List A) (n a : ℕ) (y z : A) → slice_get xs n ≡ Some z
     → ((a ≡ n) × (slice_get (slice_set xs n y) a ≡ Some y)) ⊎ ((a ≡ n → ⊥) × (slice_get (slice_set xs n y) a ≡ slice_get xs a))
 set_get [] n a y z e = absurd (let f : None ≡ Some z = e in cc)
 set_get (x ∷ xs) zero zero y z e = inl (refl, refl)

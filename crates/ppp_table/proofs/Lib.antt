@@ -5,6 +5,7 @@ mod Members
 mod NewUnits
 mod Places
 mod Steps
+mod Sums
 mod Tellings
 mod Ticks
 mod Wholes

@@ -62,3 +62,8 @@ new_whole {S = S} limit spawners units t e new sixteen = record {
   drained = rw e (new_drained 0 limit spawners units new);
   apart = rw e (λ a b link f g. absurd (no_one 0 limit spawners units new a link f));
 }
+
+-- one more at the end
+pub young_more : {S : Type 0} (tries faults : S → ℕ) (most : ℕ) (spawners : List S) (s : S) → AreYoung tries faults most spawners → tries s < most → faults s < most → AreYoung tries faults most (spawners ++ s ∷ [])
+young_more tries faults most [] s all t f = (t, f, tt)
+young_more tries faults most (x ∷ spawners) s all t f = (all.0, all.1, young_more tries faults most spawners s all.2 t f)

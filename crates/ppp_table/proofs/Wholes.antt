@@ -1,5 +1,5 @@
 -- What stays so of a table from step to step of a unit.
-use Rattle.std.proofs.Common.{◌≡◌, ℕ, Option, None, Some, IfSome, List, [], ◌∷◌, length, slice_get, refl, ap, sym, subst, ◌∙◌, arith}
+use Rattle.std.proofs.Common.{◌≡◌, ◌⊎◌, ℕ, true, Option, None, Some, IfSome, List, [], ◌∷◌, length, slice_get, slice_set, inl, inr, refl, ap, sym, subst, ◌∙◌, arith}
 use Rattle.ppp_base.specs.Stepped.{IfStale, OnTaken}
 use Rattle.ppp_base.specs.declared.stepped.Stepped.{Stepped}
 use Rattle.ppp_base.specs.declared.stepped.Stepped.TheVariants.{Taken, Stale}
@@ -7,16 +7,18 @@ use Rattle.ppp_hooks.specs.HookState.{DoneState}
 use Rattle.ppp_base.specs.Mrru.{MrruPair}
 use Rattle.ppp_base.specs.declared.allow.Allow.{Allow}
 use Rattle.ppp_unit_parts.specs.declared.wish.UnitWish.{UnitWish}
-use Rattle.ppp_unit_parts.specs.Member.{member, stay_of}
+use Rattle.ppp_unit_parts.specs.Member.{has_link, member, stay_of}
 use Rattle.ppp_bundle.specs.declared.event.BundleEvent.{BundleEvent}
 use Rattle.ppp_bundle.specs.declared.event.BundleEvent.TheVariants.{Make, In, Out, Frame, Datagram, Tick, HookOver}
 use Rattle.ppp_bundle.specs.State.{UnitState, members_of}
 use Rattle.ppp_table.specs.declared.stays.Stay.{Stay}
-use Rattle.ppp_table.specs.Fits.{AreApart, IsWhole}
+use Rattle.ppp_table.specs.Fits.{AreApart, IsWhole, members_in}
 use Rattle.ppp_table.specs.TableState.{AreDrained, TableState, stay_in}
 use Rattle.ppp_table.specs.Told.{entering}
 use Rattle.ppp_table.specs.UnitStep.{UnitStep}
-use Rattle.ppp_table.proofs.Apart.{Comes, ComesApart, IsIn, IsNowhere, apart_after, found_there}
+use Rattle.ppp_unit_parts.specs.declared.live.Live.{Live}
+use Rattle.ppp_table.proofs.Places.{drained_at, drained_set, length_set}
+use Rattle.ppp_table.proofs.Apart.{Comes, ComesApart, IsIn, IsNowhere, apart_after, found_there, set_get}
 
 pub whole_after : {S : Type 0} (n : ℕ) (event : BundleEvent S) (old new : TableState S) → UnitStep n event old new → AreApart old.units → ComesApart event old
     → length new.units ≡ 16 → AreDrained new.units → IsWhole new
@@ -62,3 +64,25 @@ pub whole_over : {S : Type 0} {E : Type 0} {F : E → Type 0} (r : Stepped E) (n
     → IsWhole old → length new.units ≡ 16 → AreDrained new.units → IsWhole new
 whole_over Taken n done old new step stale same w sixteen drained = whole_after n (HookOver done) old new step w.apart (λ x a c i. absurd c) sixteen drained
 whole_over (Stale e) n done old new step stale same w sixteen drained = rw (same e stale) w
+
+-- Where a unit's bundle and what waits stay as they are, a table stays whole.
+pub whole_set : {S : Type 0} (n : ℕ) (was now : UnitState S) (old new : TableState S) → slice_get old.units n ≡ Some was → now.live ≡ was.live → now.sent ≡ was.sent → now.given ≡ was.given
+    → new.units ≡ slice_set old.units n now → IsWhole old → IsWhole new
+whole_set {S = S} n was now old new there live sent given e w =
+    let d : (was.sent ≡ []) × (was.given ≡ []) = drained_at old.units n was w.drained there in
+    record {
+      sixteen = rw e (length_set old.units n now ∙ w.sixteen);
+      drained = rw e (drained_set old.units n now w.drained (sent ∙ d.0) (given ∙ d.1));
+      apart = λ a b x f g. w.apart a b x (before a x f) (before b x g);
+    }
+  where
+    by_place : (a x : ℕ) → ((a ≡ n) × (slice_get (slice_set old.units n now) a ≡ Some now)) ⊎ ((a ≡ n → ⊥) × (slice_get (slice_set old.units n now) a ≡ slice_get old.units a))
+        → IsIn x a (slice_set old.units n now) → IsIn x a old.units
+    by_place a x (inl f) g =
+        let here : has_link x (members_of now.live) ≡ true = subst (λ (o : Option (UnitState S)). has_link x (members_in o) ≡ true) f.1 g in
+        let was_here : has_link x (members_of was.live) ≡ true = subst (λ (o : Option Live). has_link x (members_of o) ≡ true) live here in
+        rw f.0 (subst (λ (o : Option (UnitState S)). has_link x (members_in o) ≡ true) (sym there) was_here)
+    by_place a x (inr f) g = subst (λ (o : Option (UnitState S)). has_link x (members_in o) ≡ true) f.1 g
+
+    before : (a x : ℕ) → IsIn x a new.units → IsIn x a old.units
+    before a x f = by_place a x (set_get old.units n a now was there) (subst (λ (units : List (UnitState S)). IsIn x a units) e f)

@@ -11,3 +11,5 @@ pub mod Verdicts
 pub mod PostPart
 pub mod Fits
 pub mod Begins
+pub mod Jobs
+pub mod Counts

@@ -29,6 +29,16 @@ entering (Datagram datagram) = []
 entering (Tick now) = []
 entering (HookOver done) = []
 
+-- the link that goes out by an event, if one does
+abbrev pub leaving : {S : Type 0} → BundleEvent S → List Member
+leaving (Out link stay) = member link stay 0 ∷ []
+leaving (Make number maker wish mrru allow) = []
+leaving (In link stay mru) = []
+leaving (Frame link protocol information) = []
+leaving (Datagram datagram) = []
+leaving (Tick now) = []
+leaving (HookOver done) = []
+
 -- the cause of this number
 abbrev pub cause_of : ℕ → CloseCause
 cause_of number =
@@ -39,7 +49,7 @@ cause_of number =
     else TooManyChanges
 
 -- What is told of a step: the unit, whether IPCP has come to Opened by it, whether IPCP is or was in Opened, how it closed the bundle, if it did; and the members before with the link
--- that comes in, that link, and the members after.
+-- that comes in, that link, the link that goes out, and the members after.
 pub record News : Type 0 where
   pub unit : ℕ
   pub opened : Bool
@@ -47,18 +57,21 @@ pub record News : Type 0 where
   pub ended : Option BundleEnd
   pub before : List Member
   pub comes : List Member
+  pub goes : List Member
   pub after : List Member
 
--- what is looked at before a step: the members with the link that comes in, that link, and how often IP was opened
+-- what is looked at before a step: the members with the link that comes in, that link, the link that goes out, and how often IP was opened
 pub record BeforeStep : Type 0 where
   pub members : List Member
   pub comes : List Member
+  pub goes : List Member
   pub openings : ℕ
 
 abbrev pub before : {S : Type 0} → UnitState S → BundleEvent S → BeforeStep
 before was event = record {
   members = members_of was.live ++ entering event;
   comes = entering event;
+  goes = leaving event;
   openings = openings_in 0 was.scripts.log.past;
 }
 
@@ -70,6 +83,7 @@ news_of unit b is = record {
   ended = is.ended;
   before = b.members;
   comes = b.comes;
+  goes = b.goes;
   after = members_of is.live;
 }
 
@@ -87,9 +101,14 @@ abbrev pub told_end : News → ℕ → Option BundleEnd → SideState → SideSt
 told_end n stay None side = side
 told_end n stay (Some e) side = with_control (post.Close stay n.unit (cause_of e.cause) e.elapsed_ms e.live) side
 
+-- Who goes out by the step is no member as the bundle is closed, and isn't told of the end.
+abbrev pub end_for : Bool → Option BundleEnd → Option BundleEnd
+end_for true ended = None
+end_for false ended = ended
+
 abbrev pub told_by : News → ℕ → (after before : Option ℕ) → SideState → SideState
 told_by n link (Some stay) before side = told_member n link stay side
-told_by n link None (Some stay) side = told_end n stay n.ended (without_frames side)
+told_by n link None (Some stay) side = told_end n stay (end_for (is_new (stay_of link n.goes)) n.ended) (without_frames side)
 told_by n link None None side = side
 
 abbrev pub told : News → ℕ → SideState → SideState

@@ -1,16 +1,18 @@
 ghost use Rattle.std.specs.Prelude.{◌≡◌, ◌≤◌, ◌++◌, length, option_to_list};
-ghost use Rattle.ppp_table.specs.Told.{before, entering};
+ghost use Rattle.ppp_table.specs.Told.{before, entering, leaving};
 
 use arrayvec::ArrayVec;
 use ppp_bundle::{Bundle, BundleEvent, Member};
 use ppp_outside::Spawner;
 use std::marker::Model;
 
-// What is looked at of a unit before a step: its members with the link that comes in, that link, and how often IP was opened.
+// What is looked at of a unit before a step: its members with the link that comes in, that link, the link that
+// goes out, and how often IP was opened.
 #[derive(Drop)]
 pub(crate) struct Before {
     pub(crate) members: ArrayVec<Member, 17>,
     pub(crate) comes: Option<Member>,
+    pub(crate) goes: Option<Member>,
     pub(crate) openings: u32,
 }
 
@@ -20,7 +22,7 @@ impl Model for Before {
 
     ghost Value = { BeforeStep };
 
-    ghost view = { λ b. record { members = b.members.items; comes = option_to_list b.comes; openings = b.openings } };
+    ghost view = { λ b. record { members = b.members.items; comes = option_to_list b.comes; goes = option_to_list b.goes; openings = b.openings } };
 }
 
 // The link that comes in by an event.
@@ -32,6 +34,20 @@ fn entering<S: Spawner>(event: &BundleEvent<S>) -> Option<Member>
             link: *link,
             stay: *stay,
             mru: *mru,
+        }),
+        _ => None,
+    }
+}
+
+// The link that goes out by an event.
+fn leaving<S: Spawner>(event: &BundleEvent<S>) -> Option<Member>
+    ensures { option_to_list result ≡ leaving event.now }
+{
+    match event {
+        BundleEvent::Out { link, stay } => Some(Member {
+            link: *link,
+            stay: *stay,
+            mru: 0,
         }),
         _ => None,
     }
@@ -60,6 +76,7 @@ impl Before {
         Before {
             members: members_with(unit.members(), &comes),
             comes,
+            goes: leaving(event),
             openings: unit.openings(),
         }
     }

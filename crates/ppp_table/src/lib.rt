@@ -8,6 +8,7 @@ mod asking;
 mod before;
 mod beginning;
 mod core_state;
+mod counting;
 mod draining;
 mod event;
 mod joining;
@@ -20,6 +21,7 @@ mod taking;
 mod telling;
 mod verdict;
 
+pub use counting::TableCounts;
 pub use event::TableEvent;
 pub use ppp_table_parts::deliveries::Delivery;
 pub use table::Table;

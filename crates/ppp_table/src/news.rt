@@ -17,6 +17,7 @@ pub(crate) struct StepNews {
     pub(crate) ended: Option<BundleEnd>,
     pub(crate) before: ArrayVec<Member, 17>,
     pub(crate) comes: Option<Member>,
+    pub(crate) goes: Option<Member>,
     pub(crate) after: ArrayVec<Member, 16>,
 }
 
@@ -26,7 +27,7 @@ impl Model for StepNews {
 
     ghost Value = { News };
 
-    ghost view = { λ n. record { unit = n.unit; opened = n.opened; live = n.live; ended = n.ended; before = n.before.items; comes = option_to_list n.comes; after = n.after.items } };
+    ghost view = { λ n. record { unit = n.unit; opened = n.opened; live = n.live; ended = n.ended; before = n.before.items; comes = option_to_list n.comes; goes = option_to_list n.goes; after = n.after.items } };
 }
 
 impl StepNews {
@@ -44,6 +45,7 @@ impl StepNews {
             ended: unit.ended_by(),
             before: before.members,
             comes: before.comes,
+            goes: before.goes,
             after,
         }
     }

@@ -6,15 +6,19 @@ ghost use Rattle.ppp_table_parts.specs.Deliveries.{piece_of};
 ghost use Rattle.ppp_table_parts.specs.Side.{after_first, first_post};
 ghost use Rattle.ppp_table_parts.specs.Sides.{at_link, side_of};
 ghost use Rattle.ppp_table.specs.Begins.{AreYoung, IsNew, taken_after};
+ghost use Rattle.ppp_table.specs.Counts.{counts_of};
+ghost use Rattle.ppp_table.specs.Jobs.{TakesJobOf};
 ghost use Rattle.ppp_table.specs.Fits.{AreApart, members_in};
 ghost use Rattle.ppp_table.specs.PostPart.{PostPart};
 ghost use Rattle.ppp_table.specs.TablePart.{IsFreshAt, TablePart};
 
 use crate::beginning::{links_of, units_of};
 use crate::core_state::TableCore;
+use crate::counting::TableCounts;
 use crate::event::TableEvent;
 use ppp_base::{LinkId, NoMemory, Post, Stepped, Unit, UpPost};
 use ppp_bundle::Member;
+use ppp_hooks::HookJob;
 use ppp_mark::Log;
 use ppp_option_words::Config;
 use ppp_outside::Spawner;
@@ -102,6 +106,20 @@ impl<S: Spawner> Table<S> {
         ensures rest { self.new ≡ record self.old { deliveries = record self.old.deliveries { waiting = self.new.deliveries.waiting }; taken = taken_after result self.old.taken } }
     {
         self.core.take_delivery()
+    }
+
+    /// Takes the script that a unit started, with its spawner. None exactly where none is due.
+    pub fn take_job(&mut self, unit: Unit) -> Option<HookJob<S>>
+        ensures { TakesJobOf unit result self.old self.new }
+    {
+        self.core.take_job(unit)
+    }
+
+    /// What is counted.
+    pub fn counts(&self) -> TableCounts
+        ensures { result ≡ counts_of self.now }
+    {
+        self.core.counts()
     }
 
     /// What happened on a unit.

@@ -1,5 +1,5 @@
 ghost use Rattle.std.specs.Prelude.{◌≡◌, ◌≤◌, option_to_list};
-ghost use Rattle.ppp_table.specs.Told.{cause_of, is_new, told, told_all, told_end, told_member};
+ghost use Rattle.ppp_table.specs.Told.{cause_of, end_for, is_new, told, told_all, told_end, told_member};
 ghost use Rattle.ppp_unit_parts.specs.Member.{stay_of};
 ghost use Rattle.ppp_table_parts.specs.Side.{without_frames};
 ghost use Rattle.ppp_table_parts.specs.Sides.{at_link};
@@ -7,7 +7,7 @@ ghost use Rattle.ppp_table_parts.specs.Sides.{at_link};
 use crate::news::StepNews;
 use crate::stays::stay_of;
 use ppp_base::{CloseCause, LinkId, Post};
-use ppp_bundle::Member;
+use ppp_bundle::{BundleEnd, Member};
 use ppp_table_parts::sides::Sides;
 
 // The cause of this number.
@@ -23,11 +23,11 @@ fn cause_of(number: u8) -> CloseCause
     }
 }
 
-// Whether a link comes in by the step.
-fn is_new(link: LinkId, comes: &Option<Member>) -> bool
-    ensures { result ≡ is_new (stay_of link (option_to_list comes.now)) }
+// Whether a link is the one that comes in, or goes out, by the step.
+fn is_new(link: LinkId, one: &Option<Member>) -> bool
+    ensures { result ≡ is_new (stay_of link (option_to_list one.now)) }
 {
-    match comes {
+    match one {
         Some(member) => member.link == link,
         None => false,
     }
@@ -50,12 +50,22 @@ fn tell_member(news: &StepNews, link: LinkId, stay: u32, sides: &mut Sides)
     }
 }
 
+// Who goes out by the step isn't told of the end.
+fn end_for(news: &StepNews, link: LinkId) -> Option<BundleEnd>
+    ensures { result ≡ end_for (is_new (stay_of link news.now.goes)) news.now.ended }
+{
+    if is_new(link, &news.goes) {
+        return None;
+    }
+    news.ended
+}
+
 // A member of a bundle that is closed is told so.
 #[tactic(auto, using(ppp_table_parts::proofs::SideLemmas::none_at))]
-fn tell_close(news: &StepNews, link: LinkId, stay: u32, sides: &mut Sides)
-    ensures { sides.new ≡ at_link link (told_end news.now stay news.now.ended) sides.old }
+fn tell_close(news: &StepNews, link: LinkId, stay: u32, ended: Option<BundleEnd>, sides: &mut Sides)
+    ensures { sides.new ≡ at_link link (told_end news.now stay ended) sides.old }
 {
-    if let Some(end) = news.ended {
+    if let Some(end) = ended {
         sides.put_control(
             link,
             Post::Close {
@@ -69,13 +79,13 @@ fn tell_close(news: &StepNews, link: LinkId, stay: u32, sides: &mut Sides)
     }
 }
 
-// One that was taken out: its frames are dropped, and where the bundle is closed it is told so.
-#[tactic(auto, using(ppp_table_parts::proofs::SideLemmas::twice_at))]
+// One that was taken out: its frames are dropped, and a member of a bundle that is closed is told so.
 fn tell_end(news: &StepNews, link: LinkId, stay: u32, sides: &mut Sides)
-    ensures { sides.new ≡ at_link link (λ side. told_end news.now stay news.now.ended (without_frames side)) sides.old }
+    ensures { sides.new ≡ at_link link (λ side. told_end news.now stay (end_for (is_new (stay_of link news.now.goes)) news.now.ended) (without_frames side)) sides.old }
 {
+    let ended = end_for(news, link);
     sides.clear(link);
-    tell_close(news, link, stay, sides);
+    tell_close(news, link, stay, ended, sides);
 }
 
 // One link is told what a step tells it.
