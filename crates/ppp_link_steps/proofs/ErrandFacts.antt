@@ -1,7 +1,6 @@
 -- Errands come back: what the machine stands for behind each piece.
-use Rattle.std.proofs.Common.{◌≡◌, ℕ, Bool, true, false, Option, None, Some, refl, ap, sym, subst, ◌∙◌}
+use Rattle.std.proofs.Common.{◌≡◌, ℕ, refl, ap, sym, subst, ◌∙◌}
 use Rattle.std.specs.Prelude.{is_some}
-use Rattle.ppp_link_rules.specs.declared.errand.Errand.{Errand}
 use Rattle.ppp_link_rules.specs.declared.errand.Errand.TheVariants.{Waiting}
 use Rattle.ppp_link_rules.specs.declared.errand.ReadEnd.{ReadEnd}
 use Rattle.ppp_link_rules.specs.declared.errand.ReadEnd.TheVariants as read
@@ -9,7 +8,6 @@ use Rattle.ppp_link_rules.specs.declared.errand.SentEnd.{SentEnd}
 use Rattle.ppp_link_rules.specs.declared.errand.SentEnd.TheVariants as sent
 use Rattle.ppp_link_rules.specs.CauseStatus.{line_ended, read_failed, write_failed}
 use Rattle.ppp_link_rules.specs.LinkPart.{reading_back, writing_back}
-use Rattle.ppp_link_rules.specs.LinkState.{LinkState}
 use Rattle.ppp_link_rules.specs.Sessions.{line_lost}
 use Rattle.ppp_link_core.specs.declared.link_core.LinkCore.{LinkCore}
 use Rattle.ppp_link_core.specs.Standing.{Does, Lives, Sits, StandsFor, histories_of, opened, state_of}

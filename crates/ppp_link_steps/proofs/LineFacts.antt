@@ -1,5 +1,5 @@
 -- The session's line ends: what the machine stands for behind each piece.
-use Rattle.std.proofs.Common.{◌≡◌, Bool, true, false, Option, None, Some, refl, ap, sym, subst, ◌∙◌}
+use Rattle.std.proofs.Common.{◌≡◌, Bool, true, false, Option, Some, refl, ap, sym, subst, ◌∙◌}
 use Rattle.std.specs.Prelude.{◌&&◌, is_some, not}
 use Rattle.ppp_chat.specs.Script.{ChatScript}
 use Rattle.ppp_control.specs.Rules.{by_itself, goes_down}
