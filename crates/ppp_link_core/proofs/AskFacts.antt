@@ -1,8 +1,7 @@
 -- LCP is asked: what it tells is what looking back says, and the machine stands for the state with the call.
 use Rattle.std.proofs.Common.{◌≡◌, ◌≤◌, ℕ, Bool, true, false, Option, None, Some, List, ◌∷◌, refl, ap, sym, subst, ◌∙◌, arith}
 use Rattle.std.specs.Prelude.{◌==◌, ◌^◌, min}
-use Rattle.ppp_control.specs.Past.{automaton_after}
-use Rattle.ppp_control.specs.Rules.{Call, acts_on, event_in, happened_in, rejects, sends_on}
+use Rattle.ppp_control.specs.Rules.{Call}
 use Rattle.std.proofs.lemmas.Bool.Decides.{nat_tests}
 use Rattle.ppp_fsm.specs.Fsm.{Automaton, after}
 use Rattle.ppp_fsm.specs.Moving.{is_shut}
@@ -11,11 +10,11 @@ use Rattle.ppp_fsm.proofs.MovingLemmas.{shut_by_close}
 use Rattle.ppp_lcp.specs.declared.lcp.Lcp.{Lcp}
 use Rattle.ppp_lcp.specs.declared.out.LcpOut.{LcpOut}
 use Rattle.ppp_lcp.specs.declared.wish.LcpWish.{LcpWish}
-use Rattle.ppp_lcp.specs.Session.{Calls, LcpCall, StandsFor as IsLcp, Tells, called, in_a_row, lost_at, auth_refused_at, network_refused_at, own_requests, rules}
+use Rattle.ppp_lcp.specs.Session.{Calls, LcpCall, StandsFor as IsLcp, Tells, called, in_a_row, lost_at, auth_refused_at, own_requests}
 use Rattle.ppp_link_rules.specs.LcpAnswer.{lcp_answer, told_at, told_of, told_with}
 use Rattle.ppp_link_rules.specs.LinkState.{LcpPart, LinkState}
 use Rattle.ppp_link_core.specs.declared.link_core.LinkCore.{LinkCore}
-use Rattle.ppp_link_core.specs.Standing.{Does, LcpStands, Lives, StandsFor, histories_of, opened, state_of}
+use Rattle.ppp_link_core.specs.Standing.{Does, LcpStands, Lives, StandsFor}
 use Rattle.ppp_link_core.specs.Told.{lcp_asked, lcp_asked_by, lcp_asked_now, lcp_told, lcp_told_by}
 use Rattle.ppp_link_core.proofs.StandFacts.{lives_after}
 

@@ -1,15 +1,15 @@
 -- The phase of authentication: what the machine stands for behind each piece.
-use Rattle.std.proofs.Common.{◌≡◌, ℕ, ◌+◌, ◌≤◌, Bool, true, false, cond, Option, None, Some, List, [], ◌∷◌, ◌++◌, refl, ap, sym, subst, ◌∙◌, arith}
-use Rattle.std.specs.Prelude.{is_some, option_to_list, IfSome, length}
+use Rattle.std.proofs.Common.{◌≡◌, ℕ, Bool, true, false, cond, Option, None, Some, List, [], ◌∷◌, ◌++◌, refl, ap, sym, subst, ◌∙◌}
+use Rattle.std.specs.Prelude.{is_some, option_to_list}
 use Rattle.ppp_auth.specs.Judged.{JudgeStands, judge_lost, judge_outcome, judged_in}
-use Rattle.ppp_auth.specs.Outcome.{outcome_in, passed_by, peer_passed}
+use Rattle.ppp_auth.specs.Outcome.{passed_by, peer_passed}
 use Rattle.ppp_auth.specs.declared.config.AuthConfig.{AuthConfig}
 use Rattle.ppp_auth.specs.declared.judging.JudgePart.{JudgePart}
 use Rattle.ppp_auth.specs.declared.judging.JudgePart.TheVariants as judge
 use Rattle.ppp_packet.specs.declared.agreed.Method.{Method}
 use Rattle.ppp_packet.specs.declared.agreed.Method.TheVariants.{Pap, Chap}
-use Rattle.ppp_auth.specs.Phase.{StandsFor as IsPhase, name_of, names_told, setting_of, told_at}
-use Rattle.ppp_auth.specs.Setting.{PhaseAt, PhaseCall, Setting, starts, takes, waits}
+use Rattle.ppp_auth.specs.Phase.{StandsFor as IsPhase, name_of, setting_of, told_at}
+use Rattle.ppp_auth.specs.Setting.{PhaseAt, PhaseCall, Setting, starts, takes}
 use Rattle.ppp_auth.specs.declared.out.PhaseOut.{PhaseOut}
 use Rattle.ppp_auth.specs.declared.outcome.AuthNow.{AuthNow}
 use Rattle.ppp_auth.specs.declared.outcome.AuthNow.TheVariants as now
@@ -19,7 +19,6 @@ use Rattle.ppp_base.specs.declared.hook_target.HookTarget.TheVariants.{Link}
 use Rattle.ppp_base.specs.RandomWords.{challenge_of, state_after}
 use Rattle.ppp_base.specs.declared.allow.Allow.{Allow}
 use Rattle.ppp_hooks.specs.HookFacts.{settled, with_open}
-use Rattle.ppp_hooks.specs.HookMark.{HookMark}
 use Rattle.ppp_hooks.specs.HookPast.{open_in}
 use Rattle.ppp_hooks.specs.HookRule.{due_after}
 use Rattle.ppp_mark.specs.ScriptLog.{log_opened, next_opening, opened_mark}
@@ -29,13 +28,12 @@ use Rattle.ppp_outside.specs.declared.hook_words.HookArgs.{HookArgs}
 use Rattle.ppp_outside.specs.declared.line_words.LineWords.{LineWords}
 use Rattle.ppp_packet.specs.declared.agreed.Agreed.{Agreed}
 use Rattle.ppp_packet.specs.declared.packet.Packet.{Packet}
-use Rattle.ppp_secrets.specs.declared.secrets.SecretsPair.{SecretsPair}
 use Rattle.ppp_link_parts.specs.Records.{DialStands, RecordsNow, told}
 use Rattle.ppp_link_rules.specs.Authentication.{auth_opened, called_part, ended_by_outcome, new_phase, opened_for, phase_begun, phase_begun_by, phase_called, phase_heard, phase_told, setting_by}
 use Rattle.ppp_link_rules.specs.CauseStatus.{peer_failed, we_failed}
 use Rattle.ppp_link_rules.specs.Ending.{ended_by}
 use Rattle.ppp_link_rules.specs.Facts.{peer_of}
-use Rattle.ppp_link_rules.specs.LinkState.{AuthPart, LinkState, agreed, control, outcome_of}
+use Rattle.ppp_link_rules.specs.LinkState.{AuthPart, LinkState, agreed, outcome_of}
 use Rattle.ppp_link_rules.specs.Marks.{stay_in}
 use Rattle.ppp_link_rules.specs.Sending.{phase_sent}
 use Rattle.ppp_link_rules.specs.Wishes.{auth_config, script_args}

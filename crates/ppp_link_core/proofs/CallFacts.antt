@@ -3,7 +3,6 @@ use Rattle.std.proofs.Common.{◌≡◌, ℕ, Bool, true, false, Option, None, S
 use Rattle.std.specs.Prelude.{◌==◌, ◌+◌, ◌&&◌, is_some}
 use Rattle.ppp_control.specs.Rules.{Call, hears, rejects}
 use Rattle.ppp_hdlc.specs.Deframing.{Deframing}
-use Rattle.ppp_lcp.specs.declared.lcp.Lcp.{Lcp}
 use Rattle.ppp_lcp.specs.declared.out.LcpOut.{LcpOut}
 use Rattle.ppp_mark.specs.Marks.{lcp_open_mark}
 use Rattle.ppp_packet.specs.declared.packet.Packet.{Packet}
@@ -11,7 +10,7 @@ use Rattle.ppp_link_parts.specs.Records.{DialStands, RecordsNow, marked_with, to
 use Rattle.ppp_outside.specs.declared.line_words.LineWords.{LineWords}
 use Rattle.ppp_link_rules.specs.declared.cause.Cause.{Cause}
 use Rattle.ppp_link_rules.specs.Authentication.{phase_begun}
-use Rattle.ppp_link_rules.specs.Ending.{closed_if, first_caused, is_first, lcp_left, with_map}
+use Rattle.ppp_link_rules.specs.Ending.{closed_if, first_caused, lcp_left, with_map}
 use Rattle.ppp_link_rules.specs.LcpCalls.{answered, called_part, cause_of, followed, followed_by, lcp_called, lcp_entered, lcp_heard, open_marked, protocol_rejected}
 use Rattle.ppp_link_rules.specs.LinkState.{LcpPart, LinkState, agreed, control, is_busy, is_open, lcp_state}
 use Rattle.ppp_link_rules.specs.Marking.{marked}

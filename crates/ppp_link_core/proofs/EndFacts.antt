@@ -28,10 +28,10 @@ use Rattle.ppp_link_rules.specs.LinkState.{LcpPart, LinkState, Listener, control
 use Rattle.ppp_link_rules.specs.Marks.{stay_in}
 use Rattle.ppp_link_rules.specs.Rings.{put_control}
 use Rattle.ppp_link_rules.specs.Sending.{packets_sent}
-use Rattle.ppp_link_rules.specs.UpValue.{UpValue, Leaves}
+use Rattle.ppp_link_rules.specs.UpValue.{Leaves}
 use Rattle.ppp_link_core.specs.declared.link_core.LinkCore.{LinkCore}
 use Rattle.ppp_link_core.specs.Standing.{Does, Lives, Sits, StandsFor, histories_of, opened, state_of}
-use Rattle.ppp_link_core.specs.Told.{closed_told, lcp_asked, lcp_asked_by, lcp_asked_now, lcp_told, lcp_told_by}
+use Rattle.ppp_link_core.specs.Told.{closed_told, lcp_asked_by, lcp_asked_now, lcp_told, lcp_told_by}
 use Rattle.ppp_link_core.proofs.StandFacts.{at_state, lives_after}
 
 -- THE FIRST CAUSE

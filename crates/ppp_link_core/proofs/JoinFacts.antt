@@ -1,6 +1,6 @@
 -- A Join is posted: what the machine stands for behind each piece.
 use Rattle.std.proofs.Common.{◌≡◌, ℕ, Bool, true, false, Option, None, Some, List, [], ◌∷◌, ◌++◌, refl, ap, sym, subst, ◌∙◌}
-use Rattle.std.specs.Prelude.{◌+◌, is_some}
+use Rattle.std.specs.Prelude.{◌+◌}
 use Rattle.ppp_auth.specs.declared.outcome.AuthNow.{AuthNow}
 use Rattle.ppp_auth.specs.declared.outcome.AuthNow.TheVariants as now
 use Rattle.ppp_base.specs.declared.allow.Allow.{Allow}

@@ -1,4 +1,4 @@
-mod StandFacts
+pub mod StandFacts
 mod AskFacts
 mod ReaderFacts
 mod SendFacts

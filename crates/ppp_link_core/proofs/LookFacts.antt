@@ -1,5 +1,5 @@
 -- What stands behind each frame: what the machine stands for.
-use Rattle.std.proofs.Common.{◌≡◌, ℕ, Bool, true, false, Option, None, Some, List, refl, ap, sym, subst, ◌∙◌}
+use Rattle.std.proofs.Common.{◌≡◌, Bool, true, false, Option, refl, ap, sym, subst, ◌∙◌}
 use Rattle.std.specs.Prelude.{◌&&◌, nat_le, is_some}
 use Rattle.ppp_chat.specs.Script.{ChatScript}
 use Rattle.ppp_control.specs.Rules.{by_itself, comes_up, opens}

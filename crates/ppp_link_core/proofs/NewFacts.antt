@@ -1,5 +1,5 @@
 -- A link that hasn't begun stands for that of the rules.
-use Rattle.std.proofs.Common.{◌≡◌, ℕ, ◌≤◌, Bool, true, false, Option, None, Some, List, [], refl, ap, sym, subst, ◌∙◌, arith}
+use Rattle.std.proofs.Common.{◌≡◌, ℕ, Bool, true, false, Option, None, Some, [], refl, ap, subst, arith}
 use Rattle.std.specs.Prelude.{is_some}
 use Rattle.ppp_base.specs.declared.hook_target.HookTarget.TheVariants.{Link}
 use Rattle.ppp_base.specs.declared.posts.UpPost.{UpPost}
@@ -20,7 +20,7 @@ use Rattle.ppp_link_rules.specs.LinkState.{Nobody}
 use Rattle.ppp_link_rules.specs.NewLink.{new_link}
 use Rattle.ppp_link_rules.specs.Wishes.{IsWish, dial_policy}
 use Rattle.ppp_link_core.specs.declared.link_core.LinkCore.{LinkCore}
-use Rattle.ppp_link_core.specs.Standing.{Lives, Sits, StandsFor, opened}
+use Rattle.ppp_link_core.specs.Standing.{Lives, Sits, StandsFor}
 
 pub new_stands : {S : Type 0} {id seed limit : ℕ} {config : LinkValues} {secrets : SecretsPair} {spawner : S} {r : RecordsNow S} {t : TalkNow} {script : Option ChatScript} {d : Deframing} {out : Ring ℕ} {up : Ring UpPost} {wish : LcpWish}
     → r.id ≡ id

@@ -1,5 +1,5 @@
 -- Posts of the table: what the machine stands for behind each piece.
-use Rattle.std.proofs.Common.{◌≡◌, ℕ, Bool, true, false, Option, None, Some, List, refl, ap, sym, subst, ◌∙◌}
+use Rattle.std.proofs.Common.{◌≡◌, ℕ, Bool, true, false, refl, ap, sym, subst, ◌∙◌}
 use Rattle.std.specs.Prelude.{◌&&◌, is_none, is_some, not}
 use Rattle.ppp_base.specs.declared.posts.CloseCause.{CloseCause}
 use Rattle.ppp_base.specs.declared.posts.Refusal.{Refusal}

@@ -1,5 +1,5 @@
 -- What the machine shows of itself is so of the state that it stands for.
-use Rattle.std.proofs.Common.{◌≡◌, ℕ, Bool, true, false, Option, None, Some, List, refl, ap, sym, subst, ◌∙◌}
+use Rattle.std.proofs.Common.{◌≡◌, ℕ, Bool, Option, None, Some, List, refl, ap, sym, subst, ◌∙◌}
 use Rattle.std.specs.Prelude.{◌==◌, ◌&&◌, is_none}
 use Rattle.ppp_base.specs.declared.send_settings.TheConstants.{DEFAULT_MAP}
 use Rattle.ppp_packet.specs.declared.agreed.Agreed.{Agreed}

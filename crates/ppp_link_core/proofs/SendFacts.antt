@@ -1,15 +1,11 @@
 -- What is sent: the machine stands for the state with it.
-use Rattle.std.proofs.Common.{◌≡◌, ◌+◌, ℕ, List, [], ◌∷◌, drop, suc, refl, ap, sym, subst, ◌∙◌, arith}
-use Rattle.ppp_auth.specs.declared.out.PhasePacket.{PhasePacket}
+use Rattle.std.proofs.Common.{◌≡◌, ℕ, List, refl, ap, sym, subst, ◌∙◌}
 use Rattle.ppp_base.specs.RingAfter.{Ring}
-use Rattle.ppp_base.specs.declared.protocol.TheConstants.{LCP}
 use Rattle.ppp_base.specs.declared.send_settings.SendSettings.{SendSettings}
 use Rattle.ppp_hdlc.specs.Encoding.{encoding}
-use Rattle.ppp_packet.specs.PacketOf.{laid_packet}
-use Rattle.ppp_packet.specs.declared.packet.Packet.{Packet}
 use Rattle.ppp_link_rules.specs.LinkState.{LinkState, agreed}
 use Rattle.ppp_link_rules.specs.Rings.{put_out}
-use Rattle.ppp_link_rules.specs.Sending.{frame_sent, octets_sent, packets_sent, phase_sent, settings_by}
+use Rattle.ppp_link_rules.specs.Sending.{frame_sent, octets_sent, settings_by}
 use Rattle.ppp_link_core.specs.declared.link_core.LinkCore.{LinkCore}
 use Rattle.ppp_link_core.specs.Standing.{Does, Lives, StandsFor, histories_of, state_of}
 use Rattle.ppp_link_core.proofs.StandFacts.{at_state, lives_after}

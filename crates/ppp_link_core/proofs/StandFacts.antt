@@ -1,5 +1,5 @@
 -- What a machine stands for stays so behind a call.
-use Rattle.std.proofs.Common.{◌≡◌, Bool, true, false, Option, None, Some, refl, ap, sym, subst, ◌∙◌}
+use Rattle.std.proofs.Common.{subst}
 use Rattle.ppp_link_rules.specs.LinkState.{LinkState}
 use Rattle.ppp_link_core.specs.declared.link_core.LinkCore.{LinkCore}
 use Rattle.ppp_link_core.specs.Standing.{Does, Lives, StandsFor, histories_of, state_of}

@@ -1,5 +1,5 @@
 -- Which plain states a link's machine stands for: of its chat, its LCP, its phase of authentication it keeps no calls.
-use Rattle.std.specs.Prelude.{ℕ, ◌≡◌, ◌≤◌, ◌^◌, ◌==◌, Bool, true, false, Option, None, Some, is_none, is_some, ⊤}
+use Rattle.std.specs.Prelude.{◌≡◌, ◌≤◌, ◌^◌, ◌==◌, Bool, true, false, Option, None, Some, is_none, is_some, ⊤}
 use Rattle.ppp_hooks.specs.HookPast.{open_in}
 use Rattle.ppp_lcp.specs.Session.{StandsFor as IsLcp}
 use Rattle.ppp_lcp.specs.declared.lcp.Lcp.{Lcp}

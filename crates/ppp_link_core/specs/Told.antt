@@ -1,5 +1,5 @@
 -- What LCP and the phase of authentication tell at a call, and what that leads to: the rules, cut at the answer.
-use Rattle.std.specs.Prelude.{ℕ, ◌+◌, ◌==◌, Bool, Option, None, Some, List, ◌∷◌}
+use Rattle.std.specs.Prelude.{ℕ, ◌+◌, ◌==◌, Bool, Option, None, Some, List}
 use Rattle.ppp_auth.specs.Phase.{told_at}
 use Rattle.ppp_auth.specs.Setting.{PhaseCall}
 use Rattle.ppp_auth.specs.declared.out.PhaseOut.{PhaseOut}

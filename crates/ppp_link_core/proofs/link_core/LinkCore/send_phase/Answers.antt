@@ -1,6 +1,5 @@
-use Rattle.std.proofs.Common.{◌≡◌, ◌+◌, ◌∷◌, ◌∙◌, suc, sym, ap, refl, drop, arith}
+use Rattle.std.proofs.Common.{◌≡◌, ◌+◌, ◌∷◌, ◌∙◌, suc, ap, refl, drop, arith}
 use Rattle.std.proofs.Math.Seq.{drop-cons}
-use Rattle.ppp_base.specs.declared.protocol.TheConstants.{LCP}
 use Rattle.ppp_packet.specs.PacketOf.{laid_packet}
 use Rattle.ppp_link_rules.specs.Sending.{frame_sent, phase_sent}
 use Rattle.ppp_link_core.proofs.SendFacts.{none_sent, one_sent, rest_on}

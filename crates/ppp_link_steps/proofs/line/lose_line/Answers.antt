@@ -1,0 +1,5 @@
+use Rattle.ppp_link_steps.proofs.LineFacts.{lost_does}
+use Rattle.ppp_link_steps.proofs.line.lose_line.Goals as goal
+
+pub returns-clause-does : goal.returns-clause-does
+returns-clause-does g c = lost_does c.args.cause c.is_lasting-lasting.ensures c.is_lost-lost.ensures c.end_if.ensures.does
