@@ -1,5 +1,5 @@
-ghost use Rattle.std.specs.Prelude.{◌≡◌, ℕ, [], ◌++◌, List, Option, Some, None, IfNone, OnSome, option_to_list};
-ghost use Rattle.ppp_base.specs.Stepped.{OnTaken, IfStale};
+ghost use Rattle.std.specs.Prelude.{◌≡◌, ◌↔◌, ℕ, Bool, true, [], ◌++◌, List, IfNone, OnSome, option_to_list};
+ghost use Rattle.ppp_base.specs.Stepped.{IsTaken, OnTaken, IfStale};
 
 use crate::link_id::LinkId;
 use crate::posts::{Post, UpPost};
@@ -13,14 +13,17 @@ pub trait Ends {
     /// Its number.
     ghost number: { Self → ℕ };
 
-    /// What it becomes with a post of the table. None: the post is of another stay, and isn't taken.
-    ghost taken: { Self → Post → Option Self };
+    /// Whether it takes a post of the table: it names the present stay, or none.
+    ghost is_present: { Self → Post → Bool };
+
+    /// What it becomes with a post that it takes.
+    ghost Takes: { Self → Post → Self → Type 0 };
 
     /// The posts to the table that wait, the oldest first.
     ghost waiting: { Self → List UpPost };
 
     /// What it becomes when the oldest of them is taken.
-    ghost posted: { Self → Self };
+    ghost Posted: { Self → Self → Type 0 };
 
     /// Its number.
     fn id(&self) -> LinkId
@@ -30,14 +33,14 @@ pub trait Ends {
     fn take_up(&mut self) -> Option<UpPost>
         ensures first { waiting self.old ≡ option_to_list result ++ waiting self.new }
         ensures none { IfNone result (waiting self.old ≡ []) }
-        ensures posted { OnSome result (self.new ≡ posted self.old) }
+        ensures posted { OnSome result (Posted self.old self.new) }
         ensures none_left { IfNone result (self.new ≡ self.old) }
         ensures same { number self.new ≡ number self.old };
 
     /// Hands it a post of the table. One that comes back is of another stay, and has changed nothing.
     fn from_table(&mut self, post: Post) -> Stepped<Post>
-        ensures taken { OnTaken result (taken self.old post ≡ Some self.new) }
-        ensures stale { IfStale result (λ back. taken self.old post ≡ None) }
+        ensures present { IsTaken result ↔ (is_present self.old post ≡ true) }
+        ensures taken { OnTaken result (Takes self.old post self.new) }
         ensures back { IfStale result (λ back. back ≡ post) }
         ensures unchanged { IfStale result (λ back. self.new ≡ self.old) }
         ensures same { number self.new ≡ number self.old };

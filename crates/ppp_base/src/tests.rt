@@ -211,15 +211,17 @@ struct OnePost {
 }
 
 impl Ends for OnePost {
-    ghost use Rattle.std.specs.Prelude.{None, Some, option_to_list};
+    ghost use Rattle.std.specs.Prelude.{◌≡◌, None, true, option_to_list};
 
     ghost number = { λ s. 1 };
 
-    ghost taken = { λ s post. Some s };
+    ghost is_present = { λ s post. true };
+
+    ghost Takes = { λ s post new. new ≡ s };
 
     ghost waiting = { λ s. option_to_list s.waiting };
 
-    ghost posted = { λ s. record s { waiting = None } };
+    ghost Posted = { λ s new. new ≡ record s { waiting = None } };
 
     fn id(&self) -> LinkId {
         match LinkId::new(1) {

@@ -37,8 +37,8 @@ fn is_four(number: u32, body: Option<&[u8]>) -> bool
     }
 }
 
-// Whether the protocol is that of an agreed method.
-fn is_agreed(protocol: u16, agreed: &Option<Agreed>) -> bool
+/// Whether the protocol is that of an agreed method (RFC 1661, section 3.5).
+pub fn is_agreed(protocol: u16, agreed: &Option<Agreed>) -> bool
     ensures { result ≡ is_agreed protocol agreed.now }
 {
     match agreed {

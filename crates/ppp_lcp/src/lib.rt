@@ -20,7 +20,7 @@ mod tests;
 mod wish;
 
 pub use judge::verdict;
-pub use lcp::Lcp;
+pub use lcp::{Lcp, is_agreed};
 pub use out::LcpOut;
 pub use ppp_control::Verdict;
 pub use ppp_packet::{Agreed, Method};

@@ -1,1 +1,3 @@
 mod OneLineLemmas
+mod SameLemmas
+mod DialFacts

@@ -1,3 +1,4 @@
 pub mod ErrandValues
 pub mod Reading
 pub mod OneLine
+pub mod Between

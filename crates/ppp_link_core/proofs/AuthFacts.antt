@@ -318,7 +318,7 @@ unbegun : (o : Option AuthPart) → AuthStands None o → is_some (peer_of o) �
 unbegun None h = refl
 unbegun (Some part) h = absurd h
 
-none_of : (o : Option AuthPhase) (p : Option AuthPart) → is_some o ≡ false → AuthStands o p → is_some (peer_of p) ≡ false
+pub none_of : (o : Option AuthPhase) (p : Option AuthPart) → is_some o ≡ false → AuthStands o p → is_some (peer_of p) ≡ false
 none_of None p e h = unbegun p h
 none_of (Some x) p e h = absurd (let z : true ≡ false = e in cc)
 

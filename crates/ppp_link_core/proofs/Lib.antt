@@ -1,10 +1,10 @@
 pub mod StandFacts
 mod AskFacts
-mod ReaderFacts
+pub mod ReaderFacts
 mod SendFacts
-mod EndFacts
+pub mod EndFacts
 mod CallFacts
-mod AuthFacts
+pub mod AuthFacts
 mod JoinFacts
 mod PostFacts
 mod NewFacts

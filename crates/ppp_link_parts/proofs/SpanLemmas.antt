@@ -51,29 +51,25 @@ first_octet : (octet : ℕ) (s : LinkState) (heard : Heard) → s.listener ≡ F
 first_octet octet s heard e is =
     one_octet octet s e ∙ ap (λ (x : Heard). heard_taken x (record s { deframer = fed octet s.deframer; counts = counted x s.counts })) is
 
-pub span_taken : (octets : List ℕ) (s : LinkState) (used : ℕ) (heard : Heard) → s.listener ≡ Framing → IsSpan octets s.deframer used heard
-    → octets_taken octets s ≡ octets_taken (drop used octets) (heard_taken heard (with_span (take used octets) heard s))
+span_taken : (octets : List ℕ) (s : LinkState) (used : ℕ) (heard : Heard) → s.listener ≡ Framing → IsSpan octets s.deframer used heard
+    → octets_taken (take used octets) s ≡ heard_taken heard (with_span (take used octets) heard s)
 span_taken [] s zero heard e h =
     subst (λ (x : Heard). s ≡ heard_taken x (with_span [] x s)) (sym (h.none refl)) (ap (λ (d : Deframing). record s { deframer = d }) (sym (all_none s.deframer)))
 span_taken [] s (suc used) heard e h = absurd (omega (arith, h.within))
 span_taken (octet ∷ octets) s zero heard e h = absurd (omega (arith, h.all (h.none refl)))
 span_taken (octet ∷ octets) s (suc zero) heard e h =
-    ap (λ (t : LinkState). octets_taken octets t)
-    (first_octet octet s heard e (heard_first octet octets s.deframer ∙ h.last zero (omega arith))
-    ∙ ap (λ (d : Deframing). heard_taken heard (record s { deframer = d; counts = counted heard s.counts })) (sym (all_more octet [] s.deframer ∙ all_none (fed octet s.deframer))))
+    first_octet octet s heard e (heard_first octet octets s.deframer ∙ h.last zero (omega arith))
+    ∙ ap (λ (d : Deframing). heard_taken heard (record s { deframer = d; counts = counted heard s.counts })) (sym (all_more octet [] s.deframer ∙ all_none (fed octet s.deframer)))
 span_taken (octet ∷ octets) s (suc (suc used)) heard e h =
-    ap (λ (t : LinkState). octets_taken octets t) (first_octet octet s Nothing e (heard_first octet octets s.deframer ∙ h.before zero (omega arith)))
+    ap (λ (t : LinkState). octets_taken (take (suc used) octets) t) (first_octet octet s Nothing e (heard_first octet octets s.deframer ∙ h.before zero (omega arith)))
     ∙ (span_taken octets (record s { deframer = fed octet s.deframer }) (suc used) heard e (rest_span octet octets s.deframer used heard h)
-    ∙ ap (λ (d : Deframing). octets_taken (drop (suc used) octets) (heard_taken heard (record s { deframer = d; counts = counted heard s.counts })))
-    (sym (all_more octet (take (suc used) octets) s.deframer)))
+    ∙ ap (λ (d : Deframing). heard_taken heard (record s { deframer = d; counts = counted heard s.counts })) (sym (all_more octet (take (suc used) octets) s.deframer)))
 
 -- The same of a deframer and counts that the state has.
 pub heard_span : (octets : List ℕ) (s : LinkState) (used : ℕ) (heard : Heard) (old new : Deframing) (before after : FrameCounts) → IsSpan octets old used heard
     → new ≡ fed_all (take used octets) old → after ≡ counted heard before → s.listener ≡ Framing → s.deframer ≡ old → s.counts ≡ before
-    → octets_taken octets s ≡ octets_taken (drop used octets) (heard_taken heard (record s { deframer = new; counts = after }))
+    → octets_taken (take used octets) s ≡ heard_taken heard (record s { deframer = new; counts = after })
 heard_span octets s used heard old new before after h n a e f g =
     span_taken octets s used heard e (subst (λ (d : Deframing). IsSpan octets d used heard) (sym f) h)
-    ∙ (ap (λ (d : Deframing). octets_taken (drop used octets) (heard_taken heard (record s { deframer = d; counts = counted heard s.counts })))
-    (ap (λ (d : Deframing). fed_all (take used octets) d) f ∙ sym n)
-    ∙ ap (λ (k : FrameCounts). octets_taken (drop used octets) (heard_taken heard (record s { deframer = new; counts = k })))
-    (ap (λ (k : FrameCounts). counted heard k) g ∙ sym a))
+    ∙ (ap (λ (d : Deframing). heard_taken heard (record s { deframer = d; counts = counted heard s.counts })) (ap (λ (d : Deframing). fed_all (take used octets) d) f ∙ sym n)
+    ∙ ap (λ (k : FrameCounts). heard_taken heard (record s { deframer = new; counts = k })) (ap (λ (k : FrameCounts). counted heard k) g ∙ sym a))

@@ -1,5 +1,5 @@
 // Frames are heard: a piece of the line's octets up to and with the first one that is answered otherwise than by Nothing.
-ghost use Rattle.std.specs.Prelude.{◌≡◌, ◌<◌, ◌≤◌, drop, length};
+ghost use Rattle.std.specs.Prelude.{◌≡◌, ◌<◌, ◌≤◌, length, take};
 ghost use Rattle.ppp_link_rules.specs.FrameCounts.{counted, with_fault};
 ghost use Rattle.ppp_link_rules.specs.Hearing.{heard_taken, octets_taken};
 ghost use Rattle.ppp_link_rules.specs.LinkState.{Framing, LinkState};
@@ -37,15 +37,14 @@ fn counted(counts: FrameCounts, heard: &Heard) -> FrameCounts
 }
 
 /// Takes the octets of a piece up to and with the first one that is answered otherwise than by Nothing, or else all of them.
-/// The answer is counted, and is that of the last octet that was taken. What the piece leads to is what the answer leads to,
-/// and then the octets that are left.
+/// The answer is counted, and is that of the last octet that was taken. What the octets taken lead to is what the answer leads to.
 pub fn hear_span(deframer: &mut Deframer, counts: &mut FrameCounts, octets: &[u8]) -> Span
     ensures within { result.used ≤ length octets.now }
     ensures some { 0 < length octets.now → 0 < result.used }
     ensures counts { counts.new ≡ counted result.heard counts.old }
     ensures map { deframer.new.map ≡ deframer.old.map }
     ensures taken { (s : LinkState) → s.listener ≡ Framing → s.deframer ≡ deframer.old → s.counts ≡ counts.old
-        → octets_taken octets.now s ≡ octets_taken (drop result.used octets.now) (heard_taken result.heard (record s { deframer = deframer.new; counts = counts.new })) }
+        → octets_taken (take result.used octets.now) s ≡ heard_taken result.heard (record s { deframer = deframer.new; counts = counts.new }) }
 {
     let span = deframer.feed_span(octets);
     *counts = counted(*counts, &span.heard);

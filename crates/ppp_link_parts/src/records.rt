@@ -9,7 +9,7 @@ ghost use Rattle.ppp_mark.specs.Scripts.{said_in};
 ghost use Rattle.ppp_dial.specs.declared.call.CallKind.TheVariants.{Start, Wake, Tick};
 ghost use Rattle.ppp_outside.specs.declared.line_words.LineWords.{LineWords};
 ghost use Rattle.ppp_link_rules.specs.Marks.{Holds, New, Waits, hold_by, is_new, is_session, status_by};
-ghost use Rattle.ppp_link_parts.specs.Records.{DialStands, answer_marked, marked_with, says, told};
+ghost use Rattle.ppp_link_parts.specs.Records.{DialStands, answer_marked, marked_with, says, stage_by, told};
 
 use crate::control::{Control, Doing};
 use ppp_base::{HookTarget, LinkId, NoMemory, Refusal, SignalWord, Unit};
@@ -197,6 +197,13 @@ impl<S: Spawner> Records<S> {
         ensures { result ≡ (told self.now).was_live }
     {
         self.control.was_live
+    }
+
+    /// What the dial does is what the marks tell.
+    pub fn dial_is_in_step(&self)
+        ensures { self.now.dial.stage ≡ stage_by (told self.now).doing }
+    {
+        let _doing = self.control.doing;
     }
 
     /// The mark of a line.

@@ -24,7 +24,8 @@ use Rattle.ppp_link_rules.specs.Marks.{hold_by, status_by}
 use Rattle.ppp_link_rules.specs.Sessions.{at_end, dial_answered}
 use Rattle.ppp_link_rules.specs.Signals.{hung_up_by, signal_marked, signal_taken, stopped_by, stopping}
 use Rattle.ppp_link_rules.specs.Ticking.{moments_of, ticked, timers_treated, with_time}
-use Rattle.ppp_link_rules.proofs.UnchangedLemmas.{Unchanged, chat-ticked, dial-answered, dial-come, due-signals, ended-by, line-lost, looked-after, octets-taken, post-taken, session-over, slots-treated, then, unchanged}
+use Rattle.ppp_link_rules.proofs.EachRule.{chat-ticked, ended-by, looked-after, octets-taken}
+use Rattle.ppp_link_rules.proofs.UnchangedLemmas.{Unchanged, dial-answered, dial-come, due-signals, kept, line-lost, post-taken, session-over, slots-treated, then, unchanged}
 
 -- the same as Unchanged, but for the time and for signals
 pub record Goes (most : ℕ) (now : ℕ) (old new : LinkState) : Type 0 where
@@ -75,7 +76,7 @@ at-most g = record {
 }
 
 pub at-the-end : (s : LinkState) → Unchanged s (at_end s)
-at-the-end s = then {b = looked_after s} (looked-after s) (session-over (looked_after s))
+at-the-end s = then {b = looked_after s} (looked-after kept s) (session-over (looked_after s))
 
 -- SIGNALS
 
@@ -83,12 +84,12 @@ pub marked : (word : SignalWord) (s : LinkState) → Goes 1 s.time s (signal_mar
 marked word s = record { few = omega arith; longer = omega arith; time = refl; id = refl; config = refl; wish = refl; secrets = refl; limit = refl }
 
 pub hung-up : (busy holds : Bool) (s : LinkState) → Goes 1 s.time s (hung_up_by busy holds s)
-hung-up true holds s = and (marked Hup s) (ended-by (signalled 1) (signal_marked Hup s))
+hung-up true holds s = and (marked Hup s) (ended-by kept (signalled 1) (signal_marked Hup s))
 hung-up false true s = and (marked Hup s) (dial-answered (dial_says call.Hup (signal_marked Hup s)) (signal_marked Hup s))
 hung-up false false s = at-most (same (unchanged s))
 
 pub is-stopping : (word : SignalWord) (s : LinkState) → Unchanged s (stopping word s)
-is-stopping word s = then {b = dial_answered (dial_says call.Stop s) s} (dial-answered (dial_says call.Stop s) s) (ended-by (signalled (signal_number word)) (dial_answered (dial_says call.Stop s) s))
+is-stopping word s = then {b = dial_answered (dial_says call.Stop s) s} (dial-answered (dial_says call.Stop s) s) (ended-by kept (signalled (signal_number word)) (dial_answered (dial_says call.Stop s) s))
 
 pub is-stopped : (b : Bool) (word : SignalWord) (s : LinkState) → Goes 1 s.time s (stopped_by b word s)
 is-stopped true word s = at-most (same (unchanged s))
@@ -118,13 +119,13 @@ unfolding ticked
 is-ticked now s =
     let t : LinkState = with_time now s in
     and {t = t} (record { few = omega arith; longer = omega arith; time = refl; id = refl; config = refl; wish = refl; secrets = refl; limit = refl })
-    (then {b = timers_treated t} (slots-treated (due_slots (moments_of t) t.time) t) (chat-ticked (timers_treated t).listener (timers_treated t)))
+    (then {b = timers_treated t} (slots-treated (due_slots (moments_of t) t.time) t) (chat-ticked kept (timers_treated t).listener (timers_treated t)))
 
 -- what an event does
 pub does : (event : Event) (s : LinkState) → Goes (most_signals event) (time_after event s.time) s (happened event s)
 does Begin s = same (dial-answered (dial_says call.Start s) s)
 does (Dialled link session failed came) s = same (dial-come came s)
-does (Bytes link session offset octets) s = same (then {b = _} (record { id = refl; config = refl; wish = refl; secrets = refl; time = refl; limit = refl; signals = refl }) (octets-taken octets _))
+does (Bytes link session offset octets) s = same (then {b = _} (record { id = refl; config = refl; wish = refl; secrets = refl; time = refl; limit = refl; signals = refl }) (octets-taken kept octets _))
 does (LineOver link session how) s = same (then {b = record s { reading = Waiting }} (record { id = refl; config = refl; wish = refl; secrets = refl; time = refl; limit = refl; signals = refl }) (reading-back how (record s { reading = Waiting })))
 does (Flushed link session how) s = same (then {b = record s { writing = Waiting }} (record { id = refl; config = refl; wish = refl; secrets = refl; time = refl; limit = refl; signals = refl }) (writing-back how (record s { writing = Waiting })))
 does (Tick now) s = is-ticked now s

@@ -1,4 +1,5 @@
-mod UnchangedLemmas
-mod CountLemmas
+pub mod EachRule
+pub mod UnchangedLemmas
+pub mod CountLemmas
 mod PhaseLemmas
 mod SoundLemmas

@@ -1,12 +1,11 @@
 -- What the options of a link ask of its parts (pppd(8)).
-use Rattle.std.specs.Prelude.{ℕ, ◌-◌, ◌≡◌, ◌&&◌, ◌||◌, not, Bool, Option, None, Some, List, [], ◌∷◌, codes}
+use Rattle.std.specs.Prelude.{ℕ, ◌≡◌, ◌&&◌, ◌||◌, not, Bool, List, [], ◌∷◌}
 use Rattle.ppp_fsm.specs.declared.fsm.Limits.{Limits}
 use Rattle.ppp_lcp.specs.declared.wish.LcpWish.{LcpWish}
 use Rattle.ppp_auth.specs.declared.config.AuthConfig.{AuthConfig}
 use Rattle.ppp_dial.specs.declared.policy.DialPolicy.{DialPolicy}
 use Rattle.ppp_outside.specs.declared.hook_words.HookArgs.{HookArgs}
-use Rattle.ppp_outside.specs.declared.line_words.LineWords.{LineWords}
-use Rattle.ppp_outside.specs.declared.line_words.LineWords.TheVariants.{Socket, Pty}
+use Rattle.ppp_option_words.specs.Home.{device_of, home_unit}
 use Rattle.ppp_option_words.specs.LinkValues.{LinkValues}
 
 -- With `auth` alone the peer may prove itself by either method; where one is required, by what is required alone.
@@ -47,16 +46,6 @@ auth_config c = record { name = c.name; user = c.user; password = c.password; re
 
 abbrev pub dial_policy : LinkValues → DialPolicy
 dial_policy c = record { persist = c.persist; demand = c.demand; holdoff_s = c.holdoff; maxfail = c.maxfail }
-
--- The device that scripts are told: the socket's text, or `pty`.
-abbrev pub device_of : LineWords → List ℕ
-device_of (Socket text) = text
-device_of (Pty command) = codes "pty"
-
--- A link's home unit is that of its option `unit`, or else its number less one.
-abbrev pub home_unit : ℕ → Option ℕ → ℕ
-home_unit link None = link - 1
-home_unit link (Some unit) = unit
 
 -- What the auth scripts are told of a peer that has proved itself by this name.
 abbrev pub script_args : ℕ → LinkValues → List ℕ → HookArgs

@@ -8,10 +8,15 @@ use Rattle.ppp_link_rules.specs.declared.errand.SentEnd.{SentEnd}
 use Rattle.ppp_link_rules.specs.declared.errand.SentEnd.TheVariants as sent
 use Rattle.ppp_link_rules.specs.CauseStatus.{line_ended, read_failed, write_failed}
 use Rattle.ppp_link_rules.specs.LinkPart.{reading_back, writing_back}
+use Rattle.ppp_link_rules.specs.LinkState.{LinkState}
 use Rattle.ppp_link_rules.specs.Sessions.{line_lost}
 use Rattle.ppp_link_core.specs.declared.link_core.LinkCore.{LinkCore}
 use Rattle.ppp_link_core.specs.Standing.{Does, Lives, Sits, StandsFor, histories_of, opened, state_of}
 use Rattle.ppp_link_core.proofs.StandFacts.{at_state, lives_after}
+use Rattle.ppp_link_steps.proofs.CalmLemmas.{Keeps, calm_keeps, keeps, keeps_same, keeps_then}
+use Rattle.ppp_link_steps.proofs.DialFacts.{calm_does}
+use Rattle.ppp_link_steps.proofs.HearLemmas.{lost_keeps}
+use Rattle.ppp_link_steps.specs.Calm.{Calm}
 use Rattle.ppp_link_steps.specs.Back.{reading_come, with_reading_in, with_writing_in, writing_come}
 
 pub read_does : {S : Type 0} {c : LinkCore S} → Does with_reading_in c (record c { reading = Waiting })
@@ -80,3 +85,18 @@ sits_read {S = S} {a = a} {b = b} e h = record { none = λ g. ap (λ (x : LinkCo
 
 pub sits_written : {S : Type 0} {a b : LinkCore S} → b ≡ record a { writing = b.writing } → Sits (opened a.lcp) a → Sits (opened b.lcp) b
 sits_written {S = S} {a = a} {b = b} e h = record { none = λ g. ap (λ (x : LinkCore S). is_some x.auth) e ∙ h.none (ap (λ (x : LinkCore S). opened x.lcp) (sym e) ∙ g) }
+
+reading_back_keeps : (how : ReadEnd) (s : LinkState) → Keeps s (reading_back how s)
+reading_back_keeps read.End s = lost_keeps line_ended s
+reading_back_keeps read.Failed s = lost_keeps read_failed s
+reading_back_keeps read.Left s = keeps s
+
+writing_back_keeps : (how : SentEnd) (s : LinkState) → Keeps s (writing_back how s)
+writing_back_keeps sent.All s = keeps s
+writing_back_keeps (sent.Failed count) s = lost_keeps write_failed s
+
+pub reading_calm : {S : Type 0} {a b : LinkCore S} (how : ReadEnd) → Does (reading_come how) a b → Calm a → Calm b
+reading_calm how d calm = calm_does (λ s c. calm_keeps (keeps_then {b = with_reading_in s} (keeps_same (record { doing = refl; cause = refl; session = refl; dial = refl; failed = refl; lcp = refl; wish = refl; listener = refl })) (reading_back_keeps how _)) c) d calm
+
+pub writing_calm : {S : Type 0} {a b : LinkCore S} (how : SentEnd) → Does (writing_come how) a b → Calm a → Calm b
+writing_calm how d calm = calm_does (λ s c. calm_keeps (keeps_then {b = with_writing_in s} (keeps_same (record { doing = refl; cause = refl; session = refl; dial = refl; failed = refl; lcp = refl; wish = refl; listener = refl })) (writing_back_keeps how _)) c) d calm

@@ -14,6 +14,10 @@ use Rattle.ppp_link_rules.specs.Sessions.{line_gone, line_gone_if, line_lost, wi
 use Rattle.ppp_link_core.specs.declared.link_core.LinkCore.{LinkCore}
 use Rattle.ppp_link_core.specs.Standing.{Does, Lives, Sits, StandsFor, histories_of, opened, state_of}
 use Rattle.ppp_link_core.proofs.StandFacts.{at_state, lives_after}
+use Rattle.ppp_link_steps.proofs.CalmLemmas.{calm_keeps}
+use Rattle.ppp_link_steps.proofs.DialFacts.{calm_does}
+use Rattle.ppp_link_steps.proofs.HearLemmas.{lost_keeps}
+use Rattle.ppp_link_steps.specs.Calm.{Calm}
 
 pub ended_does : {S : Type 0} {c : LinkCore S} {t : TalkNow}
     → ((script : Option ChatScript) (listener : Listener) → Listens script c.talk listener → Listens script t Nobody)
@@ -65,3 +69,6 @@ unfolding line_lost
 lost_does {a = a} {b = b} x f e d = record {
   stands = λ s k. subst (λ y. StandsFor b (line_gone_if y x s)) (e ∙ ap (λ y. y && not a.line_ended) f ∙ ap (λ (y : LinkState). is_lasting y && not y.line_ended) k.is) (d.stands s k);
 }
+
+pub lost_calm : {S : Type 0} {a b : LinkCore S} (x : Cause) → Does (line_lost x) a b → Calm a → Calm b
+lost_calm x d calm = calm_does (λ s c. calm_keeps (lost_keeps x s) c) d calm

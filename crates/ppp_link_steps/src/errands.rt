@@ -5,6 +5,7 @@ ghost use Rattle.ppp_mark.specs.Log.{room_of};
 ghost use Rattle.ppp_mark.specs.ScriptLog.{Grows};
 ghost use Rattle.ppp_link_rules.specs.LinkPart.{reading_back, writing_back};
 ghost use Rattle.ppp_link_core.specs.Standing.{Does, Lives, Sits, opened};
+ghost use Rattle.ppp_link_steps.specs.Calm.{Calm};
 ghost use Rattle.ppp_link_steps.specs.Back.{reading_come, with_reading_in, with_writing_in, writing_come};
 
 use crate::line::lose_line;
@@ -89,13 +90,14 @@ fn follow_writing<S: Spawner>(core: &mut LinkCore<S>, how: SentEnd)
 }
 
 /// A reading comes back.
-#[tactic(auto, using(crate::proofs::ErrandFacts::reading_does, crate::proofs::ErrandFacts::sits_read))]
+#[tactic(auto, using(crate::proofs::ErrandFacts::reading_does, crate::proofs::ErrandFacts::reading_calm, crate::proofs::ErrandFacts::sits_read))]
 pub fn take_reading_back<S: Spawner>(core: &mut LinkCore<S>, how: ReadEnd)
     requires lives { Lives core.old }
     requires room { 18 ≤ room_of core.old.records.scripts.log }
     requires sits { Sits (opened core.old.lcp) core.old }
     ensures does { Does (reading_come how) core.old core.new }
     ensures sits { Sits (opened core.new.lcp) core.new }
+    ensures calm { Calm core.old → Calm core.new }
     ensures grows { Grows 18 core.old.records.scripts.log core.new.records.scripts.log }
     ensures lives { Lives core.new }
 {
@@ -104,13 +106,14 @@ pub fn take_reading_back<S: Spawner>(core: &mut LinkCore<S>, how: ReadEnd)
 }
 
 /// A writing comes back.
-#[tactic(auto, using(crate::proofs::ErrandFacts::writing_does, crate::proofs::ErrandFacts::sits_written))]
+#[tactic(auto, using(crate::proofs::ErrandFacts::writing_does, crate::proofs::ErrandFacts::writing_calm, crate::proofs::ErrandFacts::sits_written))]
 pub fn take_writing_back<S: Spawner>(core: &mut LinkCore<S>, how: SentEnd)
     requires lives { Lives core.old }
     requires room { 18 ≤ room_of core.old.records.scripts.log }
     requires sits { Sits (opened core.old.lcp) core.old }
     ensures does { Does (writing_come how) core.old core.new }
     ensures sits { Sits (opened core.new.lcp) core.new }
+    ensures calm { Calm core.old → Calm core.new }
     ensures grows { Grows 18 core.old.records.scripts.log core.new.records.scripts.log }
     ensures lives { Lives core.new }
 {

@@ -6,6 +6,7 @@ ghost use Rattle.ppp_mark.specs.Log.{room_of};
 ghost use Rattle.ppp_mark.specs.ScriptLog.{Grows};
 ghost use Rattle.ppp_link_rules.specs.Sessions.{line_gone, line_gone_if, line_lost, with_line_ended};
 ghost use Rattle.ppp_link_core.specs.Standing.{Does, IsCause, Lives, Sits, opened};
+ghost use Rattle.ppp_link_steps.specs.Calm.{Calm};
 
 use ppp_link_core::asks::LcpAsk;
 use ppp_link_core::link_core::LinkCore;
@@ -68,7 +69,7 @@ fn end_if<S: Spawner>(core: &mut LinkCore<S>, lost: bool, cause: Cause)
 }
 
 /// The session's line ends, where it hadn't.
-#[tactic(auto, using(crate::proofs::LineFacts::lost_does))]
+#[tactic(auto, using(crate::proofs::LineFacts::lost_does, crate::proofs::LineFacts::lost_calm))]
 pub fn lose_line<S: Spawner>(core: &mut LinkCore<S>, cause: Cause)
     requires lives { Lives core.old }
     requires room { 18 ≤ room_of core.old.records.scripts.log }
@@ -76,6 +77,7 @@ pub fn lose_line<S: Spawner>(core: &mut LinkCore<S>, cause: Cause)
     requires sits { Sits (opened core.old.lcp) core.old }
     ensures does { Does (line_lost cause) core.old core.new }
     ensures sits { Sits (opened core.new.lcp) core.new }
+    ensures calm { Calm core.old → Calm core.new }
     ensures grows { Grows 18 core.old.records.scripts.log core.new.records.scripts.log }
     ensures lives { Lives core.new }
 {

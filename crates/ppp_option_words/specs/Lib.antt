@@ -6,6 +6,7 @@ pub use Rattle.ppp_outside.specs.Counts
 pub use Rattle.ppp_outside.specs.Files
 pub use Rattle.ppp_outside.specs.Writing
 pub mod Table
+pub mod Home
 pub mod Numbered
 pub mod Same
 pub mod Picks

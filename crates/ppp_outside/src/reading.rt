@@ -6,7 +6,7 @@ use ppp_base::NoMemory;
 use std::alloc::Global;
 
 /// How many octets are asked for at once.
-const PIECE: usize = 4096;
+const PIECE: usize = 65_536;
 
 /// What a source held.
 #[derive(Drop)]

@@ -34,7 +34,7 @@ makes_in_no_join : {S : Type 0} (o : Option ℕ) (t : TableState S) (other : ℕ
 makes_in_no_join None t other e = absurd (let f : Refuses NoRoom ≡ Joins other = e in cc)
 makes_in_no_join (Some unit) t other e = makes_no_join (nat_lt (room_in (slice_get t.units unit)) 1024) unit other e
 
-asked_no_join : {S : Type 0} (o : Option ℕ) (t : TableState S) (other : ℕ) → by_asked o t ≡ Joins other → ⊥
+pub asked_no_join : {S : Type 0} (o : Option ℕ) (t : TableState S) (other : ℕ) → by_asked o t ≡ Joins other → ⊥
 asked_no_join None t other e = makes_in_no_join (free_from 0 t.units) t other e
 asked_no_join (Some unit) t other e = by_has (has_bundle (slice_get t.units unit)) e
   where
@@ -139,7 +139,7 @@ pub may_join : {S : Type 0} (o : Option (UnitState S)) (link mru : ℕ) → is_s
 may_join None link mru e f low high = tt
 may_join (Some u) link mru e f low high = may_by u.live link mru e f low high
 
-set_there : {A : Type 0} (xs : List A) (n : ℕ) (y z : A) → slice_get xs n ≡ Some z → slice_get (slice_set xs n y) n ≡ Some y
+pub set_there : {A : Type 0} (xs : List A) (n : ℕ) (y z : A) → slice_get xs n ≡ Some z → slice_get (slice_set xs n y) n ≡ Some y
 set_there [] n y z e = absurd (let f : None ≡ Some z = e in cc)
 set_there (x ∷ xs) zero y z e = refl
 set_there (x ∷ xs) (suc n) y z e = set_there xs n y z e

@@ -58,7 +58,7 @@ closed_from : {S : Type 0} (o : Option Live) (e : Ending) (u : UnitState S) → 
 closed_from None e u live = is_same None u.live live
 closed_from (Some l) e u live = tt
 
-ended_from : {S : Type 0} (e : Option Ending) (u : UnitState S) → From u.live (closed_if e u).live
+pub ended_from : {S : Type 0} (e : Option Ending) (u : UnitState S) → From u.live (closed_if e u).live
 ended_from None u = same u.live
 ended_from (Some e) u = closed_from u.live e u refl
 

@@ -4,7 +4,8 @@ use Rattle.ppp_unit_parts.specs.declared.live.Live.{Live}
 use Rattle.ppp_unit_parts.specs.Member.{has_link}
 use Rattle.ppp_bundle.specs.State.{UnitState, members_of}
 use Rattle.ppp_table.specs.Begins.{AreNewUnits, AreYoung, IsNewUnit}
-use Rattle.ppp_table.specs.Fits.{AreApart, IsWhole, members_in}
+use Rattle.ppp_table.specs.Fits.{AllFit, AreApart, IsWhole, members_in}
+use Rattle.ppp_table_parts.specs.Side.{SideState}
 use Rattle.ppp_table.specs.TableState.{AreDrained, TableState}
 
 -- Units for the spawners that are left make those for all.
@@ -56,11 +57,19 @@ no_one number limit (s ∷ spawners) (u ∷ units) new zero link e =
     absurd (let g : false ≡ true = f in cc)
 no_one number limit (s ∷ spawners) (u ∷ units) new (suc a) link e = no_one (number + 1) limit spawners units new.1 a link e
 
+new_fit : {S : Type 0} (number limit : ℕ) (spawners : List S) (units : List (UnitState S)) (sides : List SideState) → AreNewUnits number limit spawners units → AllFit sides units
+new_fit number limit spawners [] sides new a = tt
+new_fit number limit [] (u ∷ units) sides new a = absurd new
+new_fit number limit (s ∷ spawners) (u ∷ units) sides new zero = rw new.0.live tt
+new_fit number limit (s ∷ spawners) (u ∷ units) sides new (suc a) = new_fit (number + 1) limit spawners units sides new.1 a
+
 pub new_whole : {S : Type 0} (limit : ℕ) (spawners : List S) (units : List (UnitState S)) (t : TableState S) → t.units ≡ units → AreNewUnits 0 limit spawners units → length spawners ≡ 16 → IsWhole t
 new_whole {S = S} limit spawners units t e new sixteen = record {
   sixteen = rw e (new_length 0 limit spawners units new ∙ sixteen);
   drained = rw e (new_drained 0 limit spawners units new);
   apart = rw e (λ a b link f g. absurd (no_one 0 limit spawners units new a link f));
+  fits = rw e (new_fit 0 limit spawners units t.sides new);
+  together = rw e (λ a b x y s r f g p q i. absurd (no_one 0 limit spawners units new x a f.1));
 }
 
 -- one more at the end

@@ -1,8 +1,11 @@
 -- What a table counts.
-use Rattle.std.specs.Prelude.{ℕ, ◌+◌, ◌-◌, ◌^◌, min, List, [], ◌∷◌}
+use Rattle.std.specs.Prelude.{ℕ, ◌+◌, ◌-◌, ◌^◌, ◌≡◌, min, List, [], ◌∷◌}
+use Rattle.ppp_base.specs.RingAfter.{one_more}
 use Rattle.ppp_bundle.specs.State.{UnitState}
 use Rattle.ppp_table_parts.specs.Sides.{frames_dropped}
 use Rattle.ppp_table.specs.declared.counting.TableCounts.{TableCounts}
+use Rattle.ppp_table.specs.declared.event.TableEvent.{TableEvent}
+use Rattle.ppp_table.specs.declared.event.TableEvent.TheVariants.{Packet, Tick, HookOver}
 use Rattle.ppp_table.specs.TableState.{TableState}
 
 -- over all units
@@ -24,3 +27,18 @@ counts_of t = record {
   packets = t.packets;
   taken = t.taken;
 }
+
+-- Counts of calls are kept: no packet came, and no delivery was taken.
+pub record CountsKept {S : Type 0} (old new : TableState S) : Type 0 where
+  pub packets : new.packets ≡ old.packets
+  pub taken : new.taken ≡ old.taken
+
+-- `packets` rises by one as a packet comes, whatever becomes of it, and not by another event.
+abbrev pub packets_after : {S : Type 0} → TableEvent S → ℕ → ℕ
+packets_after (Packet unit datagram) packets = one_more packets
+packets_after (Tick now) packets = packets
+packets_after (HookOver unit done) packets = packets
+
+pub record CountsAt {S : Type 0} (event : TableEvent S) (old new : TableState S) : Type 0 where
+  pub packets : new.packets ≡ packets_after event old.packets
+  pub taken : new.taken ≡ old.taken

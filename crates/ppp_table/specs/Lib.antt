@@ -1,5 +1,8 @@
 pub use Rattle.ppp_base.specs.RingAfter
+pub use Rattle.ppp_bundle.specs.Lives
 pub use Rattle.ppp_bundle.specs.UnitPart
+pub use Rattle.ppp_table_parts.specs.Deliveries
+pub use Rattle.ppp_table_parts.specs.Key
 pub use Rattle.ppp_table_parts.specs.Side
 pub use Rattle.ppp_table_parts.specs.Sides
 pub mod TableState

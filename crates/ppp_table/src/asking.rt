@@ -1,27 +1,17 @@
 ghost use Rattle.std.specs.Prelude.{◌≡◌, ◌-◌, ◌≤◌, ◌<◌, option_map, slice_get, length};
-ghost use Rattle.ppp_table.specs.Asking.{asked_by, home, is_woken, woken_one};
+ghost use Rattle.ppp_table.specs.Asking.{asked_by, is_woken, woken_one};
 ghost use Rattle.ppp_table_parts.specs.Sides.{at_link, each_link};
 
 use ppp_base::{LinkId, Unit};
-use ppp_option_words::LinkConfig;
+use ppp_option_words::{LinkConfig, home_unit};
 use ppp_table_parts::sides::Sides;
-
-// A link's home unit is that of its option `unit`, or else its number less one.
-fn home(link: LinkId, unit: Option<Unit>) -> Unit
-    ensures { result ≡ home link unit }
-{
-    match unit {
-        Some(unit) => unit,
-        None => Unit::new(link.number() - 1).unwrap(),
-    }
-}
 
 // A link asks for its home unit exactly where `unit` or `demand` is given.
 pub(crate) fn asked_by(link: LinkId, config: &LinkConfig) -> Option<Unit>
     ensures { result ≡ asked_by link config.now }
 {
     if config.unit.is_some() || config.demand {
-        Some(home(link, config.unit))
+        Some(home_unit(link, config.unit))
     } else {
         None
     }
@@ -32,7 +22,7 @@ fn is_woken(unit: Unit, link: LinkId, links: &[LinkConfig]) -> bool
     ensures { result ≡ is_woken unit link (slice_get links.now (link - 1)) }
 {
     match links.get((link.number() - 1) as usize) {
-        Some(config) => config.demand && home(link, config.unit) == unit,
+        Some(config) => config.demand && home_unit(link, config.unit) == unit,
         None => false,
     }
 }

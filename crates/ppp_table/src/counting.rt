@@ -1,4 +1,7 @@
-ghost use Rattle.std.specs.Prelude.{◌≡◌};
+ghost use Rattle.std.specs.Prelude.{◌≡◌, ◌≤◌};
+ghost use Rattle.ppp_table_parts.specs.declared.head.TheConstants.{MOST_DELIVERED};
+ghost use Rattle.ppp_table_parts.specs.Deliveries.{deliveries_size};
+ghost use Rattle.ppp_table_parts.specs.Sides.{AreWithin};
 ghost use Rattle.ppp_table.specs.Counts.{counts_of, stopped, sum_of};
 
 use crate::core_state::TableCore;
@@ -54,7 +57,9 @@ fn unit_counts<S: Spawner>(units: &[Bundle<S>]) -> UnitCounts
 impl<S: Spawner> TableCore<S> {
     // What is counted.
     pub(crate) fn counts(&self) -> TableCounts
-        ensures { result ≡ counts_of self.now }
+        ensures counts { result ≡ counts_of self.now }
+        ensures posts { AreWithin self.now.sides }
+        ensures deliveries { deliveries_size self.now.deliveries.waiting ≤ MOST_DELIVERED }
     {
         let units = unit_counts(self.units.as_slice());
         TableCounts {

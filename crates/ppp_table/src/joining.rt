@@ -1,4 +1,4 @@
-ghost use Rattle.std.specs.Prelude.{◌≡◌, ◌≤◌, ◌<◌, ◌+◌, None, Some, false, true, is_some, length, slice_get};
+ghost use Rattle.std.specs.Prelude.{◌≡◌, ◌≤◌, ◌<◌, ◌+◌, None, Some, false, length, slice_get};
 ghost use Rattle.ppp_base.specs.declared.posts.Post.TheVariants as post;
 ghost use Rattle.ppp_bundle.specs.declared.event.BundleEvent.TheVariants.{In};
 ghost use Rattle.ppp_bundle.specs.Replay.{bundles_in};
@@ -8,7 +8,8 @@ ghost use Rattle.ppp_table.specs.Fits.{IsWhole};
 ghost use Rattle.ppp_table.specs.PostPart.{Enters, MakesOne, next_number, with_terms_at};
 ghost use Rattle.ppp_table.specs.TableState.{stay_in};
 ghost use Rattle.ppp_table.specs.UnitStep.{UnitStep};
-ghost use Rattle.ppp_table.specs.Verdicts.{has_bundle, mrru_in, room_in, verdict};
+ghost use Rattle.ppp_table.specs.Verdicts.{has_bundle, room_in, verdict};
+ghost use Rattle.ppp_table.specs.declared.verdict.Verdict.TheVariants.{Joins, Makes};
 
 use crate::core_state::TableCore;
 use crate::verdict::Verdict;
@@ -30,7 +31,9 @@ fn bundles_of<S: Spawner>(unit: &Bundle<S>) -> u32
 impl<S: Spawner> TableCore<S> {
     // A link is told that it may not join.
     fn refuse(&mut self, link: LinkId, stay: u32, reason: Refusal)
-        ensures { self.new ≡ record self.old { sides = at_link link (with_control (post.Refused stay reason)) self.old.sides } }
+        requires whole { IsWhole self.old }
+        ensures new { self.new ≡ record self.old { sides = at_link link (with_control (post.Refused stay reason)) self.old.sides } }
+        ensures whole { IsWhole self.new }
     {
         self.sides.put_control(link, Post::Refused { stay, reason });
     }
@@ -39,7 +42,7 @@ impl<S: Spawner> TableCore<S> {
     fn join(&mut self, unit: Unit, link: LinkId, terms: JoinTerms, stay: u32, mru: u16)
         requires whole { IsWhole self.old }
         requires none { stay_in link self.old ≡ None }
-        requires multilink { is_some (mrru_in (slice_get self.old.units unit)) ≡ true }
+        requires told { verdict link terms self.old ≡ Joins unit }
         requires mru { (128 ≤ mru) × (mru ≤ 1500) }
         ensures step { UnitStep unit (In link stay mru) (with_terms_at link terms self.old) self.new }
         ensures whole { IsWhole self.new }
@@ -70,6 +73,7 @@ impl<S: Spawner> TableCore<S> {
     )
         requires whole { IsWhole self.old }
         requires none { stay_in link self.old ≡ None }
+        requires told { verdict link terms self.old ≡ Makes unit }
         requires free { has_bundle (slice_get self.old.units unit) ≡ false }
         requires room { 1024 ≤ room_in (slice_get self.old.units unit) }
         requires mru { (128 ≤ mru) × (mru ≤ 1500) }

@@ -95,7 +95,7 @@ impl<S: Spawner> TableCore<S> {
         ensures whole { IsWhole self.new }
     {
         match self.stay_of(link) {
-            Some(stay) => self.unit_takes(
+            Some(stay) => self.unit_keeps(
                 stay.unit,
                 BundleEvent::Frame {
                     link,

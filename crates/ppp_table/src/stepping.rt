@@ -1,12 +1,12 @@
-ghost use Rattle.std.specs.Prelude.{◌≡◌, ◌↔◌, [], IfSome, length, slice_get};
+ghost use Rattle.std.specs.Prelude.{◌≡◌, ◌↔◌, IfSome, length, slice_get};
 ghost use Rattle.ppp_base.specs.Stepped.{IfStale, IsTaken, OnTaken};
 ghost use Rattle.ppp_bundle.specs.UnitPart.{IsFresh, MayCome};
 ghost use Rattle.ppp_bundle.specs.declared.event.BundleEvent.TheVariants as unit_event;
+ghost use Rattle.ppp_table.specs.Asking.{woken};
 ghost use Rattle.ppp_table.specs.TablePart.{IsFreshAt, PacketPart, TablePart, TicksBelow, is_open_in};
 ghost use Rattle.ppp_table.specs.Fits.{IsWhole};
 ghost use Rattle.ppp_table.specs.TableState.{AreDrained};
-ghost use Rattle.ppp_table.specs.Told.{entering};
-ghost use Rattle.ppp_table.specs.UnitStep.{UnitStep};
+ghost use Rattle.ppp_table.specs.UnitStep.{IsQuiet, UnitStep};
 
 use crate::asking::wake;
 use crate::core_state::TableCore;
@@ -30,11 +30,11 @@ impl<S: Spawner> TableCore<S> {
         let _ = self.unit_step(unit, event);
     }
 
-    // One by which no link comes in.
+    // One by which no bundle is made, and no link comes in or goes out.
     #[tactic(auto, using(crate::proofs::Wholes::whole_keeps))]
-    fn unit_keeps(&mut self, unit: Unit, event: BundleEvent<S>)
+    pub(crate) fn unit_keeps(&mut self, unit: Unit, event: BundleEvent<S>)
         requires whole { IsWhole self.old }
-        requires none { entering event ≡ [] }
+        requires quiet { IsQuiet event }
         requires may { IfSome (slice_get self.old.units unit) (MayCome event) }
         requires fresh { IfSome (slice_get self.old.units unit) (IsFresh event) }
         ensures step { UnitStep unit event self.old self.new }
@@ -51,6 +51,15 @@ impl<S: Spawner> TableCore<S> {
         self.units[unit.number() as usize].opened()
     }
 
+    // The links are woken that are to dial on demand.
+    fn wake_for(&mut self, unit: Unit)
+        requires whole { IsWhole self.old }
+        ensures new { self.new ≡ woken unit self.old }
+        ensures whole { IsWhole self.new }
+    {
+        wake(unit, self.links.as_slice(), &mut self.sides);
+    }
+
     // A packet comes for a unit.
     fn packet(&mut self, unit: Unit, datagram: Datagram)
         requires whole { IsWhole self.old }
@@ -60,7 +69,7 @@ impl<S: Spawner> TableCore<S> {
         let is_open = self.is_open(unit);
         self.unit_keeps(unit, BundleEvent::Datagram(datagram));
         if !is_open {
-            wake(unit, self.links.as_slice(), &mut self.sides);
+            self.wake_for(unit);
         }
         self.packets = self.packets.saturating_add(1);
     }

@@ -1,14 +1,15 @@
-ghost use Rattle.std.specs.Prelude.{◌≡◌, ◌+◌, ◌<◌, ◌↔◌, ◌^◌, [], ◌++◌, IfNone, IfOk, IfSome, length, option_map, option_to_list, slice_get};
+ghost use Rattle.std.specs.Prelude.{◌≡◌, ◌+◌, ◌-◌, ◌≤◌, ◌<◌, ◌↔◌, ◌^◌, [], ◌++◌, IfNone, IfOk, IfSome, length, option_map, option_to_list, slice_get};
 ghost use Rattle.ppp_base.specs.Stepped.{IfStale, IsTaken, OnTaken};
 ghost use Rattle.ppp_bundle.specs.State.{members_of};
 ghost use Rattle.ppp_mark.specs.Scripts.{LogLaw};
-ghost use Rattle.ppp_table_parts.specs.Deliveries.{piece_of};
-ghost use Rattle.ppp_table_parts.specs.Side.{after_first, first_post};
-ghost use Rattle.ppp_table_parts.specs.Sides.{at_link, side_of};
+ghost use Rattle.ppp_table_parts.specs.declared.head.TheConstants.{MOST_DELIVERED};
+ghost use Rattle.ppp_table_parts.specs.Deliveries.{deliveries_size, piece_of};
+ghost use Rattle.ppp_table_parts.specs.Side.{after_first, first_post, posts_of};
+ghost use Rattle.ppp_table_parts.specs.Sides.{AreWithin, at_link, side_of};
 ghost use Rattle.ppp_table.specs.Begins.{AreYoung, IsNew, taken_after};
-ghost use Rattle.ppp_table.specs.Counts.{counts_of};
+ghost use Rattle.ppp_table.specs.Counts.{CountsAt, CountsKept, counts_of};
 ghost use Rattle.ppp_table.specs.Jobs.{TakesJobOf};
-ghost use Rattle.ppp_table.specs.Fits.{AreApart, members_in};
+ghost use Rattle.ppp_table.specs.Fits.{AllFit, AreApart, IsItself, members_in};
 ghost use Rattle.ppp_table.specs.PostPart.{PostPart};
 ghost use Rattle.ppp_table.specs.TablePart.{IsFreshAt, TablePart};
 
@@ -28,7 +29,7 @@ use ppp_table_parts::sides::Sides;
 use std::alloc::Global;
 use std::marker::Model;
 
-/// The sixteen units with what waits between them and the links. No link is in two bundles.
+/// The sixteen units with what waits between them and the links. No link is in two bundles, and each member fits its bundle.
 #[derive(Drop)]
 pub struct Table<S: Spawner> {
     core: TableCore<S>,
@@ -75,17 +76,21 @@ impl<S: Spawner> Table<S> {
 
     /// One event. A script's end that isn't that of its unit's running job is stale: it comes back, and nothing changes. It
     /// takes no memory.
+    #[tactic(auto, using(crate::proofs::Kept::step_counts))]
     pub fn step(&mut self, event: TableEvent<S>) -> Stepped<TableEvent<S>>
         ensures taken { IsTaken result ↔ IsFreshAt event self.old }
         ensures part { OnTaken result (TablePart event self.old self.new) }
         ensures stale { IfStale result (λ back. (back ≡ event) × (self.new ≡ self.old)) }
+        ensures counts { CountsAt event self.old self.new }
     {
         self.core.step(event)
     }
 
     /// One post of a link. It takes no memory.
+    #[tactic(auto, using(crate::proofs::Kept::post_kept))]
     pub fn post(&mut self, from: LinkId, post: UpPost)
-        ensures { PostPart from post self.old self.new }
+        ensures part { PostPart from post self.old self.new }
+        ensures counts { CountsKept self.old self.new }
     {
         self.core.post(from, post);
     }
@@ -95,8 +100,12 @@ impl<S: Spawner> Table<S> {
     pub fn take_post(&mut self, link: LinkId) -> Option<Post>
         ensures first { result ≡ first_post (side_of link self.old.sides) }
         ensures new { self.new ≡ record self.old { sides = at_link link after_first self.old.sides } }
+        ensures waits { posts_of (side_of link self.old.sides) ≡ option_to_list result ++ posts_of (side_of link self.new.sides) }
+        ensures none { IfNone result (posts_of (side_of link self.old.sides) ≡ []) }
+        ensures there { link - 1 < length self.old.sides }
+        ensures counts { CountsKept self.old self.new }
     {
-        self.core.sides.take(link)
+        self.core.take_post(link)
     }
 
     /// Takes the datagram that waits longest, and counts it. None exactly where none waits.
@@ -109,15 +118,19 @@ impl<S: Spawner> Table<S> {
     }
 
     /// Takes the script that a unit started, with its spawner. None exactly where none is due.
+    #[tactic(auto, using(crate::proofs::Kept::job_kept))]
     pub fn take_job(&mut self, unit: Unit) -> Option<HookJob<S>>
-        ensures { TakesJobOf unit result self.old self.new }
+        ensures job { TakesJobOf unit result self.old self.new }
+        ensures counts { CountsKept self.old self.new }
     {
         self.core.take_job(unit)
     }
 
     /// What is counted.
     pub fn counts(&self) -> TableCounts
-        ensures { result ≡ counts_of self.now }
+        ensures counts { result ≡ counts_of self.now }
+        ensures posts { AreWithin self.now.sides }
+        ensures deliveries { deliveries_size self.now.deliveries.waiting ≤ MOST_DELIVERED }
     {
         self.core.counts()
     }
@@ -126,6 +139,7 @@ impl<S: Spawner> Table<S> {
     pub fn log(&self, unit: Unit) -> &Log
         ensures value { IfSome (slice_get self.now.units unit) (λ u. result.now ≡ u.scripts.log) }
         ensures law { LogLaw 0 result.now.past }
+        ensures unit { IfSome (slice_get self.now.units unit) IsItself }
         ensures apart { AreApart self.now.units }
     {
         self.core.units[unit.number() as usize].log()
@@ -135,6 +149,7 @@ impl<S: Spawner> Table<S> {
     pub fn members(&self, unit: Unit) -> &[Member]
         ensures value { result.now ≡ members_in (slice_get self.now.units unit) }
         ensures apart { AreApart self.now.units }
+        ensures fits { AllFit self.now.sides self.now.units }
     {
         self.core.units[unit.number() as usize].members()
     }

@@ -1,11 +1,13 @@
-ghost use Rattle.std.specs.Prelude.{◌≡◌, [], ◌++◌, IfNone, option_map, option_to_list};
+ghost use Rattle.std.specs.Prelude.{◌≡◌, ◌-◌, ◌<◌, [], ◌++◌, IfNone, length, option_map, option_to_list};
+ghost use Rattle.ppp_table_parts.specs.Side.{after_first, first_post, posts_of};
+ghost use Rattle.ppp_table_parts.specs.Sides.{at_link, side_of};
 ghost use Rattle.ppp_table_parts.specs.Deliveries.{piece_of};
 ghost use Rattle.ppp_table.specs.Begins.{taken_after};
 ghost use Rattle.ppp_table.specs.Fits.{IsWhole};
 ghost use Rattle.ppp_table.specs.Jobs.{TakesJob, TakesJobOf};
 
 use crate::core_state::TableCore;
-use ppp_base::Unit;
+use ppp_base::{LinkId, Post, Unit};
 use ppp_bundle::Bundle;
 use ppp_hooks::HookJob;
 use ppp_outside::Spawner;
@@ -29,6 +31,19 @@ impl<S: Spawner> TableCore<S> {
         ensures whole { IsWhole self.new }
     {
         job_of(&mut self.units[unit.number() as usize])
+    }
+
+    // Takes what waits first for a link.
+    pub(crate) fn take_post(&mut self, link: LinkId) -> Option<Post>
+        requires whole { IsWhole self.old }
+        ensures first { result ≡ first_post (side_of link self.old.sides) }
+        ensures new { self.new ≡ record self.old { sides = at_link link after_first self.old.sides } }
+        ensures waits { posts_of (side_of link self.old.sides) ≡ option_to_list result ++ posts_of (side_of link self.new.sides) }
+        ensures none { IfNone result (posts_of (side_of link self.old.sides) ≡ []) }
+        ensures there { link - 1 < length self.old.sides }
+        ensures whole { IsWhole self.new }
+    {
+        self.sides.take(link)
     }
 
     // Takes the datagram that waits longest, and counts it.

@@ -1,1 +1,3 @@
 pub mod SideLemmas
+pub mod PostLemmas
+pub mod TermLemmas

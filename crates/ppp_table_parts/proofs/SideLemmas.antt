@@ -1,7 +1,8 @@
 -- What is done to what waits for links.
-use Rattle.std.proofs.Common.{◌≡◌, ◌≤◌, ◌<◌, ◌+◌, ◌-◌, ◌^◌, ℕ, zero, suc, min, List, [], ◌∷◌, length, drop, slice_set, slice_index_or, refl, ap, sym, ◌∙◌, arith}
-use Rattle.ppp_table_parts.specs.Side.{SideState, idle}
-use Rattle.ppp_table_parts.specs.Sides.{at_link, each_link, frames_dropped, side_of}
+use Rattle.std.proofs.Common.{◌≡◌, ◌≤◌, ◌<◌, ◌+◌, ◌-◌, ℕ, zero, suc, min, List, [], ◌∷◌, length, drop, slice_set, slice_index_or, refl, ap, ◌∙◌, arith}
+use Rattle.ppp_table_parts.specs.Side.{SideState, frames_size, idle}
+use Rattle.ppp_table_parts.specs.declared.head.TheConstants.{MOST_POSTED}
+use Rattle.ppp_table_parts.specs.Sides.{AreWithin, at_link, each_link, frames_dropped, side_of}
 
 none_left : (n : ℕ) (sides : List SideState) → length sides ≤ n → frames_dropped (drop n sides) ≡ 0
 none_left zero [] few = refl
@@ -59,3 +60,23 @@ pub twice_at : (link : ℕ) (f g : SideState → SideState) (sides : List SideSt
 twice_at link f g sides some =
     let t : _ = set_twice (link - 1) (f (side_of link sides)) (g (f (side_of link sides))) idle sides some in
     (rw t.0 refl) ∙ t.1
+
+-- what stands at one place then
+pub set_there : (link : ℕ) (f : SideState → SideState) (sides : List SideState) → link - 1 < length sides → side_of link (at_link link f sides) ≡ f (side_of link sides)
+set_there link f sides some = (set_twice (link - 1) (f (side_of link sides)) idle idle sides some).0
+
+-- one link after the other
+pub within_one : (n : ℕ) (sides : List SideState) (side : SideState) → n < length sides → side ≡ slice_index_or sides n side → frames_size side.frames.waiting ≤ MOST_POSTED
+    → (AreWithin (drop n sides) → AreWithin sides) → AreWithin (drop (n + 1) sides) → AreWithin sides
+within_one n sides side some is fits rest more = rest (one n sides some is (let e : n + 1 ≡ suc n = grind arith in rw e at more))
+  where
+    one : (n : ℕ) (sides : List SideState) → n < length sides → side ≡ slice_index_or sides n side → AreWithin (drop (suc n) sides) → AreWithin (drop n sides)
+    one n [] some is more = absurd (grind arith)
+    one zero (s ∷ sides) some is more = (rw is at fits, more)
+    one (suc n) (s ∷ sides) some is more = one n sides (let f : suc n < suc (length sides) = some in grind arith) is more
+
+pub within_all : (n : ℕ) (sides : List SideState) → length sides ≤ n → AreWithin (drop n sides)
+within_all zero [] few = tt
+within_all zero (side ∷ sides) few = absurd (grind arith)
+within_all (suc n) [] few = tt
+within_all (suc n) (side ∷ sides) few = within_all n sides (let f : suc (length sides) ≤ suc n = few in grind arith)

@@ -1,5 +1,5 @@
 -- What waits at the table for one link.
-use Rattle.std.specs.Prelude.{ℕ, ◌+◌, Bool, true, false, Option, None, Some, List, [], ◌∷◌, length, drop, if◌then◌else◌}
+use Rattle.std.specs.Prelude.{ℕ, Bool, true, false, Option, None, Some, option_to_list, List, [], ◌∷◌, ◌++◌, drop, if◌then◌else◌}
 use Rattle.ppp_base.specs.RingAfter.{Ring, RingAfter}
 use Rattle.ppp_base.specs.declared.posts.Post.{Post}
 use Rattle.ppp_base.specs.declared.posts.Post.TheVariants as post
@@ -67,3 +67,19 @@ after_of None false side = record side { frames = record side.frames { waiting =
 
 abbrev pub after_first : SideState → SideState
 after_first side = after_of side.control side.wake side
+
+-- all that waits, in the order in which it goes out
+abbrev pub wake_posts : Bool → List Post
+wake_posts false = []
+wake_posts true = post.Wake ∷ []
+
+abbrev pub frame_posts : List (Piece FrameHead) → List Post
+frame_posts [] = []
+frame_posts (frame ∷ frames) = post_of frame ∷ frame_posts frames
+
+abbrev pub posts_of : SideState → List Post
+posts_of side = option_to_list side.control ++ wake_posts side.wake ++ frame_posts side.frames.waiting
+
+-- All of it is taken.
+abbrev pub emptied : SideState → SideState
+emptied side = record side { control = None; wake = false; frames = record side.frames { waiting = [] } }

@@ -1,6 +1,7 @@
 -- What waits at the table for the sixteen links, each at the place before its number.
-use Rattle.std.specs.Prelude.{ℕ, ◌+◌, ◌-◌, min, ◌^◌, Option, List, [], ◌∷◌, slice_get, slice_set, slice_index_or}
-use Rattle.ppp_table_parts.specs.Side.{SideState, idle}
+use Rattle.std.specs.Prelude.{ℕ, ◌+◌, ◌-◌, ◌≤◌, ⊤, List, [], ◌∷◌, slice_set, slice_index_or}
+use Rattle.ppp_table_parts.specs.declared.head.TheConstants.{MOST_POSTED}
+use Rattle.ppp_table_parts.specs.Side.{SideState, frames_size, idle}
 
 -- what waits for one link
 abbrev pub side_of : ℕ → List SideState → SideState
@@ -19,3 +20,8 @@ each_link change link (side ∷ sides) = change link side ∷ each_link change (
 abbrev pub frames_dropped : List SideState → ℕ
 frames_dropped [] = 0
 frames_dropped (side ∷ sides) = side.frames.dropped + frames_dropped sides
+
+-- The frames that wait for each link fit into its ring.
+abbrev pub AreWithin : List SideState → Type 0
+AreWithin [] = ⊤
+AreWithin (side ∷ sides) = (frames_size side.frames.waiting ≤ MOST_POSTED) × AreWithin sides

@@ -1,7 +1,7 @@
-ghost use Rattle.std.specs.Prelude.{◌≡◌, ◌≤◌, [], ◌∷◌, None, false, length, IfOk};
+ghost use Rattle.std.specs.Prelude.{◌≡◌, ◌≤◌, [], ◌∷◌, ◌++◌, None, false, length, option_to_list, IfNone, IfOk};
 ghost use Rattle.ppp_base.specs.declared.octets.TheConstants.{MOST_FRAME};
 ghost use Rattle.ppp_table_parts.specs.declared.head.TheConstants.{MOST_POSTED};
-ghost use Rattle.ppp_table_parts.specs.Side.{after_first, first_post, frames_size, idle, post_of, with_control, with_frame, with_terms, with_wake, without_frames};
+ghost use Rattle.ppp_table_parts.specs.Side.{after_first, first_post, frames_size, idle, post_of, posts_of, with_control, with_frame, with_terms, with_wake, without_frames};
 
 use crate::head::{FrameHead, HEAD_SIZE, MOST_POSTED};
 use crate::terms::JoinTerms;
@@ -131,9 +131,12 @@ impl LinkSide {
     }
 
     /// Takes the control post, then a Wake, then the frames in their order. None exactly where none waits.
+    #[tactic(auto, using(crate::proofs::PostLemmas::first_is, crate::proofs::PostLemmas::none_waits))]
     pub fn take(&mut self) -> Option<Post>
         ensures first { result ≡ first_post self.old }
         ensures new { self.new ≡ after_first self.old }
+        ensures waits { posts_of self.old ≡ option_to_list result ++ posts_of self.new }
+        ensures none { IfNone result (posts_of self.old ≡ []) }
     {
         if let Some(post) = self.control.take() {
             return Some(post);

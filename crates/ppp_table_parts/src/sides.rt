@@ -1,8 +1,8 @@
-ghost use Rattle.std.specs.Prelude.{◌≡◌, ◌≤◌, ◌<◌, ◌-◌, ◌^◌, min, length, replicate, IfOk};
+ghost use Rattle.std.specs.Prelude.{◌≡◌, ◌≤◌, ◌<◌, ◌-◌, ◌^◌, [], ◌++◌, min, length, option_to_list, replicate, IfNone, IfOk};
 ghost use Rattle.ppp_base.specs.declared.octets.TheConstants.{MOST_FRAME};
 ghost use Rattle.ppp_table_parts.specs.declared.head.TheConstants.{MOST_POSTED};
-ghost use Rattle.ppp_table_parts.specs.Side.{after_first, first_post, frames_size, idle, with_control, with_frame, with_terms, with_wake, without_frames};
-ghost use Rattle.ppp_table_parts.specs.Sides.{at_link, frames_dropped, side_of};
+ghost use Rattle.ppp_table_parts.specs.Side.{after_first, first_post, frames_size, idle, posts_of, with_control, with_frame, with_terms, with_wake, without_frames};
+ghost use Rattle.ppp_table_parts.specs.Sides.{AreWithin, at_link, frames_dropped, side_of};
 
 use crate::head::FrameHead;
 use crate::side::LinkSide;
@@ -91,7 +91,8 @@ impl Sides {
 
     /// A link comes into a bundle with these terms.
     pub fn set_terms(&mut self, link: LinkId, terms: JoinTerms)
-        ensures { self.new ≡ at_link link (with_terms terms) self.old }
+        ensures new { self.new ≡ at_link link (with_terms terms) self.old }
+        ensures there { (1 ≤ link) × (link - 1 < length self.old) }
     {
         self.sides[place(link)].set_terms(terms);
     }
@@ -103,17 +104,23 @@ impl Sides {
         self.sides[place(link)].terms()
     }
 
-    /// Takes what waits first for a link.
+    /// Takes what waits first for a link. None exactly where nothing waits.
+    #[tactic(auto, using(crate::proofs::PostLemmas::first_there))]
     pub fn take(&mut self, link: LinkId) -> Option<Post>
         ensures first { result ≡ first_post (side_of link self.old) }
         ensures new { self.new ≡ at_link link after_first self.old }
+        ensures waits { posts_of (side_of link self.old) ≡ option_to_list result ++ posts_of (side_of link self.new) }
+        ensures none { IfNone result (posts_of (side_of link self.old) ≡ []) }
+        ensures there { link - 1 < length self.old }
     {
         self.sides[place(link)].take()
     }
 
     /// How many frames found no room. The count stands still at its end.
+    #[tactic(auto, using(crate::proofs::SideLemmas::within_one))]
     pub fn dropped(&self) -> u64
-        ensures { result ≡ min (frames_dropped self.now) (2 ^ 64 - 1) }
+        ensures dropped { result ≡ min (frames_dropped self.now) (2 ^ 64 - 1) }
+        ensures within { AreWithin self.now }
     {
         let mut dropped: u64 = 0;
         'counting: for side in self.sides.as_slice() {

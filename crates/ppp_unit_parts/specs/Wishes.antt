@@ -1,16 +1,10 @@
 -- What the options of a bundle's maker ask of the bundle (pppd(8)).
-use Rattle.std.specs.Prelude.{ℕ, ◌≡◌, List, codes}
+use Rattle.std.specs.Prelude.{◌≡◌}
 use Rattle.ppp_fsm.specs.declared.fsm.Limits.{Limits}
 use Rattle.ppp_ipcp.specs.declared.wish.IpWish.{IpWish}
+use Rattle.ppp_option_words.specs.Home.{device_of}
 use Rattle.ppp_option_words.specs.LinkValues.{LinkValues}
-use Rattle.ppp_outside.specs.declared.line_words.LineWords.{LineWords}
-use Rattle.ppp_outside.specs.declared.line_words.LineWords.TheVariants.{Socket, Pty}
 use Rattle.ppp_unit_parts.specs.declared.wish.UnitWish.{UnitWish}
-
--- The device that scripts are told: the socket's text, or `pty`.
-abbrev pub device_of : LineWords → List ℕ
-device_of (Socket text) = text
-device_of (Pty command) = codes "pty"
 
 -- Of IPCP: our address and the peer's of the last word `A:B`, whether the peer may name others, and how often and how long a request is sent. The limits
 -- of requests are values of their own.

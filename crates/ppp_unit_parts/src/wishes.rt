@@ -1,28 +1,12 @@
 //! What the options of a link ask of the bundle that it makes. None of these calls takes memory.
 
 ghost use Rattle.std.specs.Prelude.{◌≡◌};
-ghost use Rattle.ppp_unit_parts.specs.Wishes.{IsUnitWish, device_of, ip_wish};
+ghost use Rattle.ppp_unit_parts.specs.Wishes.{IsUnitWish, ip_wish};
 
 use crate::wish::UnitWish;
-use ppp_base::Name;
 use ppp_fsm::Limits;
 use ppp_ipcp::IpWish;
-use ppp_option_words::LinkConfig;
-use ppp_outside::LineWords;
-
-// The device that scripts are told: the socket's text, or `pty`.
-fn device_of(line: &LineWords) -> Name
-    ensures { result ≡ device_of line.now }
-{
-    match line {
-        LineWords::Socket(text) => text.copy(),
-        LineWords::Pty(_) => {
-            let mut device = Name::new();
-            device.append(b"pty");
-            device
-        }
-    }
-}
+use ppp_option_words::{LinkConfig, device_of};
 
 // What the options ask of IPCP.
 fn ip_wish(config: &LinkConfig) -> IpWish

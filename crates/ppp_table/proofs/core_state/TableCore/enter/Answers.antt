@@ -1,12 +1,21 @@
-use Rattle.std.proofs.Common.{◌≤◌, ◌<◌, ◌-◌, length, arith}
+use Rattle.std.proofs.Common.{◌≤◌, ◌<◌, ◌-◌, length, sym, ◌∙◌, arith}
 use Rattle.ppp_option_words.specs.LinkValues.{LinkValues}
 use Rattle.ppp_unit_parts.specs.Wishes.{IsUnitWish}
 use Rattle.ppp_table.proofs.Joins.{makes_where_free}
 use Rattle.ppp_table.proofs.Places.{to_found}
 use Rattle.ppp_table.proofs.core_state.TableCore.enter.Goals as goal
 
+pub join-requires-clause-told : goal.join-requires-clause-told
+join-requires-clause-told g c = sym c.requires.told ∙ c.in-Joins.is
+
+pub make-requires-clause-told : goal.make-requires-clause-told
+make-requires-clause-told g c = sym c.requires.told ∙ c.in-Makes.is
+
 pub make-requires-clause-free : goal.make-requires-clause-free
 make-requires-clause-free g c = (makes_where_free c.args.told c.args.link c.in-Makes.unit c.args.terms c.args.self.now c.requires.told c.in-Makes.is).0
+
+pub make-requires-clause-room : goal.make-requires-clause-room
+make-requires-clause-room g c = (makes_where_free c.args.told c.args.link c.in-Makes.unit c.args.terms c.args.self.now c.requires.told c.in-Makes.is).1
 
 pub returns-in-Makes-clause-part : goal.returns-in-Makes-clause-part
 returns-in-Makes-clause-part g c =

@@ -21,4 +21,4 @@ pub returns-clause-whole : goal.returns-clause-whole
 returns-clause-whole g c =
     let some : c.number.result < length c.self.inside.units.items = below c.number.result (length c.self.inside.units.items) (rw (← c.self.view_is) at c.requires.whole.sixteen) (grind (arith, c.number.ensures.value, c.number.ensures.range)) in
     whole_set c.number.result c.index_mut.result.now c.job_of.new.unit c.args.self.now _ (rw (← c.self.view_is) (found c.self.inside.units.items c.number.result c.index_mut.result.now some c.index_mut.ensures.value))
-    c.job_of.ensures.live c.job_of.ensures.sent c.job_of.ensures.given (rw (← c.self.view_is) refl) c.requires.whole
+    c.job_of.ensures.live c.job_of.ensures.sent c.job_of.ensures.given (rw (← c.self.view_is) refl) (rw (← c.self.view_is) refl) c.requires.whole

@@ -1,0 +1,5 @@
+pub mod Budget
+pub mod Scripts
+pub mod Errands
+pub mod LinkStands
+pub mod Moves

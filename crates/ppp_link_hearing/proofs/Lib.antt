@@ -1,0 +1,4 @@
+mod ChatFacts
+mod WayFacts
+mod FrameFacts
+mod OctetFacts

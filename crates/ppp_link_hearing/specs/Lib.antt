@@ -1,0 +1,2 @@
+pub mod Chatted
+pub mod Heard
