@@ -11,3 +11,4 @@ mod NewFacts
 mod LineFacts
 mod ErrandFacts
 pub mod ComeFacts
+mod WishFacts
