@@ -78,7 +78,7 @@ fn branch(state: u64) -> (u64, u64)
 }
 
 // A session has its line: its LCP is made anew, and its reading and its writing wait.
-#[tactic(auto, using(crate::proofs::ComeFacts::line_does, crate::proofs::ComeFacts::line_lives, crate::proofs::ComeFacts::line_sits))]
+#[tactic(auto, using(crate::proofs::ComeFacts::line_does, crate::proofs::ComeFacts::line_sits))]
 fn put_line<S: Spawner>(core: &mut LinkCore<S>)
     requires lives { Lives core.old }
     requires room { 1 ≤ room_of core.old.records.scripts.log }
@@ -134,7 +134,7 @@ fn talk_if<S: Spawner>(core: &mut LinkCore<S>, busy: bool)
 }
 
 /// The dial that was out comes back with a line: the session talks by it. A session that has a cause drops it.
-#[tactic(auto, using(crate::proofs::ComeFacts::taken_does, crate::proofs::ComeFacts::taken_calm, crate::proofs::SignalFacts::busy_lasts, crate::proofs::ComeFacts::out_phase, crate::proofs::ComeFacts::sits_back))]
+#[tactic(auto, using(crate::proofs::ComeFacts::taken_does, crate::proofs::SignalFacts::busy_lasts, crate::proofs::ComeFacts::out_phase, crate::proofs::ComeFacts::sits_back))]
 pub fn take_line<S: Spawner>(core: &mut LinkCore<S>)
     requires lives { Lives core.old }
     requires room { 27 ≤ room_of core.old.records.scripts.log }

@@ -205,7 +205,7 @@ pub fn tick_timers<S: Spawner>(core: &mut LinkCore<S>, now: u64)
 }
 
 /// A tick: the time is set, the slots that are due are treated, and then a chat that hears looks at the time.
-#[tactic(auto, using(crate::proofs::TickFacts::all_ticked, crate::proofs::TickFacts::all_calm))]
+#[tactic(auto, using(crate::proofs::TickFacts::all_ticked))]
 pub fn tick<S: Spawner>(core: &mut LinkCore<S>, now: u64)
     requires lives { Lives core.old }
     requires room { 47 ≤ room_of core.old.records.scripts.log }
