@@ -1,13 +1,11 @@
 -- The dial comes back: what the machine stands for behind each piece.
-use Rattle.std.proofs.Common.{◌≡◌, ◌≤◌, ◌<◌, ℕ, Bool, true, false, Option, None, Some, List, [], refl, ap, sym, subst, ◌∙◌, arith}
+use Rattle.std.proofs.Common.{◌≡◌, ◌≤◌, ◌<◌, ℕ, Bool, true, false, Some, [], refl, ap, sym, subst, ◌∙◌, arith}
 use Rattle.std.specs.Prelude.{◌+◌, ◌&&◌, is_none, is_some}
 use Rattle.ppp_base.specs.RandomWords.{branch_of, state_after}
-use Rattle.ppp_fsm.specs.declared.fsm.Limits.{Limits}
 use Rattle.ppp_lcp.specs.Session.{StandsFor as IsLcp}
 use Rattle.ppp_lcp.specs.declared.lcp.Lcp.{Lcp}
 use Rattle.ppp_lcp.specs.declared.wish.LcpWish.{LcpWish}
 use Rattle.ppp_mark.specs.Marks.{line_mark}
-use Rattle.ppp_option_words.specs.LinkValues.{LinkValues}
 use Rattle.ppp_outside.specs.declared.line_words.LineWords.{LineWords}
 use Rattle.ppp_link_parts.specs.Records.{DialStands, RecordsNow, marked_with, told}
 use Rattle.ppp_link_rules.specs.CauseStatus.{dial_failed}
@@ -16,7 +14,7 @@ use Rattle.ppp_link_rules.specs.Hearing.{talk_begun}
 use Rattle.ppp_link_rules.specs.LinkState.{LinkState, control, is_absent, is_busy, is_lasting}
 use Rattle.ppp_link_rules.specs.Marks.{is_session}
 use Rattle.ppp_link_rules.specs.Sessions.{dial_come, line_come, line_come_if, with_dial_back, with_failure, with_line}
-use Rattle.ppp_link_rules.specs.Wishes.{IsWish, lcp_wish}
+use Rattle.ppp_link_rules.specs.Wishes.{IsWish}
 use Rattle.ppp_link_rules.specs.declared.errand.Errand.{Errand}
 use Rattle.ppp_link_rules.specs.declared.errand.Errand.TheVariants.{Absent, Waiting, Out}
 use Rattle.ppp_link_core.proofs.StandFacts.{at_state, lives_after}

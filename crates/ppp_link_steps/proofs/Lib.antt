@@ -12,3 +12,4 @@ mod LineFacts
 mod ErrandFacts
 pub mod ComeFacts
 mod WishFacts
+pub mod HearFacts

@@ -1,6 +1,6 @@
 -- A tick: what the machine stands for behind each piece.
-use Rattle.std.proofs.Common.{◌≡◌, ◌≤◌, ℕ, Bool, true, false, Option, None, Some, List, [], ◌∷◌, refl, ap, sym, subst, ◌∙◌, arith}
-use Rattle.std.specs.Prelude.{◌&&◌, ◌^◌, is_none, is_some, max, min, filter, nat_le}
+use Rattle.std.proofs.Common.{◌≡◌, ◌≤◌, ℕ, Bool, true, false, Option, None, Some, List, refl, ap, sym, subst, ◌∙◌, arith}
+use Rattle.std.specs.Prelude.{◌&&◌, ◌^◌, is_some, max, min, filter, nat_le}
 use Rattle.std.proofs.lemmas.Bool.Decides.{nat_tests}
 use Rattle.ppp_auth.specs.Setting.{waits}
 use Rattle.ppp_auth.specs.declared.phase.AuthPhase.{AuthPhase}
@@ -9,7 +9,7 @@ use Rattle.ppp_dial.specs.declared.call.CallKind.TheVariants as call
 use Rattle.ppp_lcp.specs.Session.{LcpCall, StandsFor as IsLcp, deadline_after}
 use Rattle.ppp_lcp.specs.declared.lcp.Lcp.{Lcp}
 use Rattle.ppp_lcp.specs.declared.wish.LcpWish.{LcpWish}
-use Rattle.ppp_timer.specs.Due.{due_slots, has_come, moment_of, slots}
+use Rattle.ppp_timer.specs.Due.{has_come, moment_of, slots}
 use Rattle.ppp_timer.specs.declared.slot.Slot.{Slot}
 use Rattle.ppp_timer.specs.declared.slot.Slot.TheVariants.{LcpRestart, AuthRestart, AuthEnd, Echo, Hold, IpcpRestart, Idle, Connect}
 use Rattle.ppp_link_parts.specs.Records.{told}
@@ -21,7 +21,7 @@ use Rattle.ppp_link_rules.specs.Marks.{hold_by}
 use Rattle.ppp_link_rules.specs.Ticking.{lcp_moment, moments_of, phase_moment, slots_treated, ticked, timers_treated, treated_if, with_time}
 use Rattle.ppp_link_rules.specs.declared.limits.TheConstants.{MOST_TIME}
 use Rattle.ppp_link_core.proofs.StandFacts.{at_state, lives_after}
-use Rattle.ppp_link_core.specs.Standing.{AuthStands, Does, LcpStands, Lives, Sits, StandsFor, histories_of, opened, state_of}
+use Rattle.ppp_link_core.specs.Standing.{AuthStands, Does, LcpStands, Lives, Sits, StandsFor, histories_of, state_of}
 use Rattle.ppp_link_core.specs.declared.link_core.LinkCore.{LinkCore}
 use Rattle.ppp_link_steps.proofs.CalmLemmas.{Keeps, calm_keeps, keeps, keeps_same, lcp_called_keeps, no_open_tick, phase_keeps}
 use Rattle.ppp_link_steps.proofs.DialFacts.{calm_does}
