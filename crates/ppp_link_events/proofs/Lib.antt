@@ -1,0 +1,6 @@
+mod GoingFacts
+mod EventFacts
+mod ErrandFacts
+mod LookFacts
+mod OctetFacts
+mod NewFacts

@@ -11,6 +11,7 @@ ghost use Rattle.ppp_link_core.specs.Standing.{StandsFor};
 ghost use Rattle.ppp_link_events.specs.Going.{Goes, IsGoing, Takes};
 
 use crate::late;
+use crate::looking::is_new;
 use ppp_base::{Post, SignalWord};
 use ppp_hooks::HookDone;
 use ppp_link_core::link_core::LinkCore;
@@ -22,6 +23,7 @@ use ppp_link_steps::{dialling, jobs, posts};
 use ppp_outside::Spawner;
 
 // The link begins, if it is new.
+#[tactic(auto, using(crate::proofs::GoingFacts::goes_lives, crate::proofs::GoingFacts::goes_room, crate::proofs::EventFacts::begin_takes, crate::proofs::EventFacts::idle_takes, crate::proofs::EventFacts::begin_goes))]
 fn begin_if<S: Spawner>(core: &mut LinkCore<S>, new: bool)
     requires goes { Goes core.old }
     requires new { (s : LinkState) → StandsFor core.old s → is_new (control s).doing ≡ new }
@@ -40,11 +42,12 @@ pub fn begin<S: Spawner>(core: &mut LinkCore<S>)
     ensures takes { Takes Begin core.old core.new }
     ensures goes { Goes core.new }
 {
-    let new = core.records.is_new();
+    let new = is_new(core);
     begin_if(core, new);
 }
 
 /// The dial that was out comes back, with a line or without one.
+#[tactic(auto, using(crate::proofs::GoingFacts::goes_lives, crate::proofs::GoingFacts::goes_room, crate::proofs::EventFacts::dial_takes, crate::proofs::EventFacts::dial_goes))]
 pub fn take_dial<S: Spawner>(core: &mut LinkCore<S>, came: bool)
     requires goes { Goes core.old }
     requires out { core.old.dial ≡ errand.Out }
@@ -56,6 +59,7 @@ pub fn take_dial<S: Spawner>(core: &mut LinkCore<S>, came: bool)
 }
 
 /// The reading that was out comes back.
+#[tactic(auto, using(crate::proofs::GoingFacts::goes_lives, crate::proofs::GoingFacts::goes_room, crate::proofs::EventFacts::reading_takes, crate::proofs::EventFacts::reading_goes))]
 pub fn take_reading_over<S: Spawner>(core: &mut LinkCore<S>, how: ReadEnd)
     requires goes { Goes core.old }
     requires out { core.old.reading ≡ errand.Out }
@@ -68,6 +72,7 @@ pub fn take_reading_over<S: Spawner>(core: &mut LinkCore<S>, how: ReadEnd)
 }
 
 /// The writing that was out comes back.
+#[tactic(auto, using(crate::proofs::GoingFacts::goes_lives, crate::proofs::GoingFacts::goes_room, crate::proofs::EventFacts::sent_takes, crate::proofs::EventFacts::sent_goes))]
 pub fn take_sent<S: Spawner>(core: &mut LinkCore<S>, how: SentEnd)
     requires goes { Goes core.old }
     requires out { core.old.writing ≡ errand.Out }
@@ -79,6 +84,7 @@ pub fn take_sent<S: Spawner>(core: &mut LinkCore<S>, how: SentEnd)
 }
 
 /// The time.
+#[tactic(auto, using(crate::proofs::GoingFacts::goes_lives, crate::proofs::GoingFacts::goes_room, crate::proofs::EventFacts::tick_takes, crate::proofs::EventFacts::tick_goes))]
 pub fn tick<S: Spawner>(core: &mut LinkCore<S>, now: u64)
     requires goes { Goes core.old }
     ensures takes { Takes (Tick now) core.old core.new }
@@ -89,6 +95,7 @@ pub fn tick<S: Spawner>(core: &mut LinkCore<S>, now: u64)
 }
 
 /// A signal.
+#[tactic(auto, using(crate::proofs::GoingFacts::goes_lives, crate::proofs::GoingFacts::goes_room, crate::proofs::EventFacts::signal_takes, crate::proofs::EventFacts::signal_goes))]
 pub fn signal<S: Spawner>(core: &mut LinkCore<S>, word: SignalWord)
     requires goes { Goes core.old }
     ensures takes { Takes (Signal word) core.old core.new }
@@ -99,6 +106,7 @@ pub fn signal<S: Spawner>(core: &mut LinkCore<S>, word: SignalWord)
 }
 
 /// A post of the table, which names the present stay if it names one.
+#[tactic(auto, using(crate::proofs::GoingFacts::goes_lives, crate::proofs::GoingFacts::goes_room, crate::proofs::EventFacts::post_takes, crate::proofs::EventFacts::post_goes))]
 pub fn take_post<S: Spawner>(core: &mut LinkCore<S>, post: Post)
     requires goes { Goes core.old }
     requires present { (s : LinkState) → StandsFor core.old s → is_present (FromTable post) s ≡ true }
