@@ -126,10 +126,10 @@ writing_goes e h g =
 
 -- THE JOB
 
-pub job_gives : {S A : Type 0} {a b : LinkCore S} (job : Option A) → ((s : LinkState) → StandsFor a s → gives_job s ≡ is_some job)
+pub job_gives : {S A : Type 0} (a b : LinkCore S) (job : Option A) → ((s : LinkState) → StandsFor a s → gives_job s ≡ is_some job)
     → OnSome job (Does with_job_out a b) → OnSome job (Gives with_job_out a b)
-job_gives None h d = d
-job_gives (Some x) h d = record { leaves = λ s k. record { stands = d.stands s k.stands; holds = job_stands s (h s k.stands) k.holds } }
+job_gives a b None h d = d
+job_gives a b (Some x) h d = record { leaves = λ s k. record { stands = d.stands s k.stands; holds = job_stands s (h s k.stands) k.holds } }
 
 pub job_goes : {S A : Type 0} {a b : LinkCore S} (job : Option A) → OnSome job (Gives with_job_out a b) → IfNone job (b ≡ a) → Goes a → Sits (opened b.lcp) b → Calm b → Goes b
 job_goes None d e g sits calm = subst Goes (sym e) g
@@ -181,9 +181,9 @@ post_first {c = c} post left e f s k = ap (λ (y : LinkState). first_of y.up.wai
 pub post_gives : {S : Type 0} {c : LinkCore S} {r : Ring UpPost} → r ≡ without_first c.up → Gives with_post_taken c (record c { up = r })
 post_gives e = record { leaves = λ s k. record { stands = (post_does e).stands s k.stands; holds = post_stands s k.holds } }
 
-pub post_gives_some : {S : Type 0} {c : LinkCore S} {r : Ring UpPost} (post : Option UpPost) → r ≡ without_first c.up → OnSome post (Gives with_post_taken c (record c { up = r }))
-post_gives_some None e = tt
-post_gives_some (Some p) e = post_gives e
+pub post_gives_some : {S : Type 0} {r : Ring UpPost} (c : LinkCore S) (post : Option UpPost) → r ≡ without_first c.up → OnSome post (Gives with_post_taken c (record c { up = r }))
+post_gives_some c None e = tt
+post_gives_some c (Some p) e = post_gives {c = c} e
 
 empty_stays : (ring : Ring UpPost) → ring.waiting ≡ [] → without_first ring ≡ ring
 empty_stays ring e = ap (λ (posts : List UpPost). let r : Ring UpPost = record { waiting = posts; dropped = ring.dropped } in r) (ap (λ l. drop 1 l) e ∙ sym e)

@@ -1,6 +1,7 @@
 -- What follows where a link's machine goes, and what an event leaves that isn't a second begin.
 use Rattle.std.proofs.Common.{◌≡◌, ◌≤◌, ◌+◌, ℕ, true, false, ap, sym, subst, arith}
 use Rattle.ppp_mark.specs.Log.{LogState, room_of}
+use Rattle.ppp_mark.specs.ScriptLog.{Grows}
 use Rattle.ppp_link_core.specs.declared.link_core.LinkCore.{LinkCore}
 use Rattle.ppp_link_core.specs.Standing.{Does, Lives, Sits, StandsFor, opened}
 use Rattle.ppp_link_facts.proofs.LinkFacts.{link_event_stands, link_has_room}
@@ -22,6 +23,10 @@ pub goes_room : {S : Type 0} {c : LinkCore S} → Goes c → 64 ≤ room_of c.re
 goes_room g =
     subst (λ (l : LogState). 64 ≤ room_of l) (ap (λ (y : LinkState). y.log) (sym g.going.stands.is))
     (with_owed (owed g.state) (room_of g.state.log) (link_has_room g.state g.going.holds).room)
+
+-- behind a call that marks so much, so much is left
+pub room_after : {old new : LogState} → 64 ≤ room_of old → (most left : ℕ) → Grows most old new → most + left ≤ 64 → left ≤ room_of new
+room_after h most left g le = omega (arith, h, g.few, g.longer, g.same_limit, le)
 
 pub calm_does : {S : Type 0} {a b : LinkCore S} {rule : LinkState → LinkState} → ((s : LinkState) → IsCalm s → IsCalm (rule s)) → Does rule a b → Calm a → Calm b
 calm_does {rule = rule} h d calm = record { state = rule calm.state; stands = d.stands calm.state calm.stands; calm = h calm.state calm.calm }

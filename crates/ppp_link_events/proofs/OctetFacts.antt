@@ -48,10 +48,10 @@ between_counted count s k = record {
   talks = λ talks. budget_of (with_taken count s) (mid_of s k.stands (k.talks talks));
 }
 
-pub counted_hears : {S : Type 0} {c : LinkCore S} {n : ℕ} (count : ℕ) → n ≡ raised c.taken count → Goes c → Hears (record c { taken = n })
-counted_hears count e g = record {
+pub counted_hears : {S : Type 0} {a b : LinkCore S} (count : ℕ) → Does (with_taken count) a b → Goes a → Hears b
+counted_hears count d g = record {
   state = with_taken count g.state;
-  stands = (counted_does count e).stands g.state g.going.stands;
+  stands = d.stands g.state g.going.stands;
   between = between_counted count g.state (link_octets_begin g.state g.going.holds);
 }
 
@@ -87,7 +87,7 @@ nothing_gone c octets = record { stands = λ s k. k }
 pub more_gone : {S : Type 0} {a b c : LinkCore S} (octets : List ℕ) (at count : ℕ)
     → Does (octets_taken (take at octets)) a b → Does (octets_taken (take count (drop at octets))) b c → Does (octets_taken (take (at + count) octets)) a c
 more_gone {c = c} octets at count x y = record {
-  stands = λ s k. subst (λ (l : List ℕ). StandsFor c (octets_taken l s)) (sym take-add)
+  stands = λ s k. subst (λ (l : List ℕ). StandsFor c (octets_taken l s)) (sym (take-add at count octets))
       (subst (StandsFor c) (sym (octets_joined (take at octets) (take count (drop at octets)) s)) (y.stands (octets_taken (take at octets) s) (x.stands s k)));
 }
 

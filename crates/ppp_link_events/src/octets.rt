@@ -14,11 +14,10 @@ use ppp_link_steps::sessions::end_step;
 use ppp_outside::Spawner;
 
 // So many octets more were taken.
-#[tactic(auto, using(crate::proofs::OctetFacts::counted_does, crate::proofs::OctetFacts::counted_hears, crate::proofs::OctetFacts::counted_sits))]
+#[tactic(auto, using(crate::proofs::OctetFacts::counted_does, crate::proofs::OctetFacts::counted_sits))]
 fn count<S: Spawner>(core: &mut LinkCore<S>, octets: &[u8])
     requires goes { Goes core.old }
     ensures does { Does (with_taken (length octets.now)) core.old core.new }
-    ensures hears { Hears core.new }
     ensures sits { Sits (opened core.new.lcp) core.new }
 {
     core.taken = core.taken.saturating_add(octets.len() as u64);
