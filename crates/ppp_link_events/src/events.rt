@@ -10,16 +10,16 @@ ghost use Rattle.ppp_link_rules.specs.declared.errand.Errand.TheVariants as erra
 ghost use Rattle.ppp_link_core.specs.Standing.{StandsFor};
 ghost use Rattle.ppp_link_events.specs.Going.{Goes, IsGoing, Takes};
 
-use crate::late;
 use crate::looking::is_new;
 use ppp_base::{Post, SignalWord};
 use ppp_hooks::HookDone;
 use ppp_link_core::link_core::LinkCore;
 use ppp_link_rules::errand::{ReadEnd, SentEnd};
+use ppp_link_steps::coming::take_dial_back;
 use ppp_link_steps::errands::{take_reading_back, take_writing_back};
 use ppp_link_steps::sessions::end_step;
 use ppp_link_steps::signals::take_signal;
-use ppp_link_steps::{dialling, jobs, posts};
+use ppp_link_steps::{dialling, jobs, posts, ticking};
 use ppp_outside::Spawner;
 
 // The link begins, if it is new.
@@ -54,7 +54,7 @@ pub fn take_dial<S: Spawner>(core: &mut LinkCore<S>, came: bool)
     ensures takes { (link session failed : ℕ) → Takes (Dialled link session failed came) core.old core.new }
     ensures goes { Goes core.new }
 {
-    late::take_dial_back(core, came);
+    take_dial_back(core, came);
     end_step(core);
 }
 
@@ -90,7 +90,7 @@ pub fn tick<S: Spawner>(core: &mut LinkCore<S>, now: u64)
     ensures takes { Takes (Tick now) core.old core.new }
     ensures goes { Goes core.new }
 {
-    late::tick(core, now);
+    ticking::tick(core, now);
     end_step(core);
 }
 

@@ -9,7 +9,7 @@ ghost use Rattle.ppp_link_events.specs.Going.{Goes, Takes};
 ghost use Rattle.ppp_link_events.specs.Hearing.{Hears, with_taken};
 
 use ppp_link_core::link_core::LinkCore;
-use ppp_link_hearing::octets::take_span;
+use ppp_link_steps::hearing::hear_span;
 use ppp_link_steps::sessions::end_step;
 use ppp_outside::Spawner;
 
@@ -28,13 +28,15 @@ fn count<S: Spawner>(core: &mut LinkCore<S>, octets: &[u8])
 fn hear<S: Spawner>(core: &mut LinkCore<S>, octets: &[u8])
     requires hears { Hears core.old }
     requires sits { Sits (opened core.old.lcp) core.old }
+    requires calm { Calm core.old }
     ensures does { Does (octets_taken octets.now) core.old core.new }
     ensures hears { Hears core.new }
     ensures sits { Sits (opened core.new.lcp) core.new }
+    ensures calm { Calm core.new }
 {
     let mut at = 0;
     'hearing: while at < octets.len() {
-        let count = take_span(core, &octets[at..]);
+        let count = hear_span(core, &octets[at..]);
         at += count;
     }
 }

@@ -1,6 +1,7 @@
 use Rattle.std.proofs.Common.{length, ◌-◌, ◌≤◌, take}
 use Rattle.ppp_link_core.specs.Standing.{Does, Sits, opened}
 use Rattle.ppp_link_rules.specs.Hearing.{octets_taken}
+use Rattle.ppp_link_steps.specs.Calm.{Calm}
 use Rattle.ppp_link_events.proofs.octets.hear.Given as goal
 use Rattle.ppp_link_events.specs.Hearing.{Hears}
 
@@ -11,6 +12,7 @@ invariant-hearing g l = record {
   gone : Does (octets_taken (take l.at l.octets)) l.initial.core l.core;
   hears : Hears l.core;
   sits : Sits (opened l.core.lcp) l.core;
+  calm : Calm l.core;
 }
 
 abbrev pub decreases-hearing : goal.decreases-hearing
