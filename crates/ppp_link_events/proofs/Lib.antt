@@ -4,3 +4,4 @@ mod ErrandFacts
 mod LookFacts
 mod OctetFacts
 mod NewFacts
+mod JobFacts

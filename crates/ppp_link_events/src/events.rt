@@ -118,6 +118,7 @@ pub fn take_post<S: Spawner>(core: &mut LinkCore<S>, post: Post)
 }
 
 /// A script has ended. An `Err` gives back what isn't the job that was taken and runs, and changes nothing.
+#[tactic(auto, using(crate::proofs::GoingFacts::goes_lives, crate::proofs::GoingFacts::goes_room))]
 pub fn end_job<S: Spawner>(core: &mut LinkCore<S>, done: HookDone<S>) -> Result<(), HookDone<S>>
     requires goes { Goes core.old }
     ensures ok { IsOk result ↔ IsRunningJob done core.old.records.scripts }
