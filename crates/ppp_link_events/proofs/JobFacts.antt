@@ -1,6 +1,7 @@
 -- A script has ended: which job is out, and what the machine stands for behind its end.
 use Rattle.std.proofs.Common.{◌≡◌, ℕ, Bool, true, false, Option, None, Some, refl, ap, sym, subst, ◌∙◌, arith}
-use Rattle.std.specs.Prelude.{◌==◌, ◌&&◌, is_none}
+use Rattle.std.specs.Prelude.{◌==◌, ◌&&◌, Err, IsErr, IsOk, Ok, Result, is_none}
+use Rattle.std.proofs.lemmas.Bool.{false≢true}
 use Rattle.std.proofs.lemmas.Bool.Decides.{nat_tests}
 use Rattle.ppp_base.specs.declared.hook_target.HookTarget.{HookTarget}
 use Rattle.ppp_base.specs.declared.hook_target.HookTarget.TheVariants.{Link, Unit as OfUnit}
@@ -74,6 +75,10 @@ out_running {c = c} done t s k e =
       number = is_number done.number s.scripts.starts (left_of two last counts) ∙ keeps.starts ∙ ap (λ (l : LogState). starts_in (said_in l.past)) log;
       not_started = is_number done.not_started s.scripts.not_started (right_of two last counts) ∙ keeps.not_started ∙ ap (λ (l : LogState). not_started_in (said_in l.past)) log;
     }
+
+pub never_both : {A B : Type 0} (r : Result A B) → IsErr r → IsOk r → ⊥
+never_both (Ok x) e f = false≢true e
+never_both (Err x) e f = false≢true f
 
 -- ITS END
 
