@@ -15,9 +15,9 @@ use Rattle.ppp_link_rules.specs.Errands.{first_of, gives_job, gives_reading, giv
 use Rattle.ppp_link_rules.specs.LinkState.{LinkState, control, is_absent, is_busy, is_waiting}
 use Rattle.ppp_link_rules.specs.UpValue.{UpValue}
 use Rattle.ppp_link_steps.proofs.CalmLemmas.{calm_keeps, keeps_same}
-use Rattle.ppp_link_steps.specs.Calm.{Calm, IsCalm, may_talk, pending}
+use Rattle.ppp_link_steps.specs.Calm.{Calm, IsCalm, pending}
 use Rattle.ppp_link_events.proofs.GoingFacts.{calm_does}
-use Rattle.ppp_link_events.specs.Going.{Gives, Goes, IsGoing}
+use Rattle.ppp_link_events.specs.Going.{Gives, Goes}
 
 pub given_goes : {S : Type 0} {a b : LinkCore S} {rule : LinkState → LinkState} → Gives rule a b → Goes a → Sits (opened b.lcp) b → Calm b → Goes b
 given_goes {rule = rule} d g sits calm = record { state = rule g.state; going = d.leaves g.state g.going; sits = sits; calm = calm }

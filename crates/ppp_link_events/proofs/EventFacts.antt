@@ -6,7 +6,6 @@ use Rattle.ppp_base.specs.declared.posts.Post.{Post}
 use Rattle.ppp_base.specs.declared.signal_word.SignalWord.{SignalWord}
 use Rattle.ppp_link_core.specs.declared.link_core.LinkCore.{LinkCore}
 use Rattle.ppp_link_core.specs.Standing.{Does, Sits, StandsFor, opened}
-use Rattle.ppp_link_rules.specs.declared.errand.Errand.{Errand}
 use Rattle.ppp_link_rules.specs.declared.errand.Errand.TheVariants.{Out}
 use Rattle.ppp_link_rules.specs.declared.errand.ReadEnd.{ReadEnd}
 use Rattle.ppp_link_rules.specs.declared.errand.SentEnd.{SentEnd}

@@ -1,5 +1,5 @@
 -- What a reader answers is so of each state that the machine stands for.
-use Rattle.std.proofs.Common.{◌≡◌, ℕ, Bool, true, false, Option, None, Some, refl, ap, sym, ◌∙◌}
+use Rattle.std.proofs.Common.{◌≡◌, ℕ, Bool, true, false, Option, refl, ap, sym, ◌∙◌}
 use Rattle.std.specs.Prelude.{◌==◌, ◌&&◌, not}
 use Rattle.ppp_base.specs.declared.posts.Post.{Post}
 use Rattle.ppp_link_core.specs.declared.link_core.LinkCore.{LinkCore}

@@ -1,6 +1,6 @@
 //! Octets of the line come, whole: they are counted, heard, and the step ends.
 
-ghost use Rattle.std.specs.Prelude.{◌≡◌, ◌≤◌, ℕ, length};
+ghost use Rattle.std.specs.Prelude.{ℕ, length};
 ghost use Rattle.ppp_link_rules.specs.Hearing.{octets_taken};
 ghost use Rattle.ppp_link_rules.specs.LinkEvent.{Bytes};
 ghost use Rattle.ppp_link_core.specs.Standing.{Does, Sits, opened};

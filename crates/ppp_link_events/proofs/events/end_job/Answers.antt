@@ -17,6 +17,7 @@ pub returns-clause-present : goal.returns-clause-present
 returns-clause-present g c s k = (λ _. running_out c.args.done c.in_ok-end_job.ensures.target s k (c.in_ok-end_job.ensures.ok.0 refl), λ _. refl)
 
 pub returns-in_err-end_job-clause-present : goal.returns-in_err-end_job-clause-present
-returns-in_err-end_job-clause-present g c s k =
-    (λ ok. absurd (never_both c.from_residual.result c.from_residual.ensures.0 ok),
-    λ out. absurd (false≢true (c.in_err-end_job.ensures.ok.1 (out_running c.args.done c.in_err-end_job.ensures.target s k out))))
+returns-in_err-end_job-clause-present g c s k = (
+  λ ok. absurd (never_both c.from_residual.result c.from_residual.ensures.0 ok),
+  λ out. absurd (false≢true (c.in_err-end_job.ensures.ok.1 (out_running c.args.done c.in_err-end_job.ensures.target s k out))),
+)

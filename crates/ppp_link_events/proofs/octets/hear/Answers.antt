@@ -1,8 +1,6 @@
 use Rattle.std.proofs.Common.{◌≡◌, ◌-◌, ◌≤◌, length, drop, take, sym, arith}
 use Rattle.std.proofs.Math.Seq.{take-length}
 use Rattle.std.proofs.lemmas.List.{length-drop}
-use Rattle.ppp_link_core.specs.Standing.{Does}
-use Rattle.ppp_link_rules.specs.Hearing.{octets_taken}
 use Rattle.ppp_link_events.proofs.OctetFacts.{hears_on, more_gone}
 use Rattle.ppp_link_events.proofs.octets.hear.Goals as goal
 
