@@ -1,6 +1,5 @@
 -- What a link is: a machine that goes, and the objects of the errands that aren't out.
-use Rattle.std.specs.Prelude.{ℕ, ◌≡◌, Bool, true, false, not, Option, None, Some, is_some, IfSome}
-use Rattle.ppp_hooks.specs.HookCounts.{CountsFrom}
+use Rattle.std.specs.Prelude.{ℕ, ◌≡◌, Bool, true, false, not, Option, None, is_some, IfSome}
 use Rattle.ppp_hooks.specs.HookState.{WasHandedIn}
 use Rattle.ppp_outside.specs.Dialer.{DialerState}
 use Rattle.ppp_outside.specs.Line.{LineState}
@@ -28,11 +27,6 @@ pub record IsWhole {D I O S : Type 0} (dialer_of : D → DialerState) (line_of :
   pub output : is_some l.output ≡ is_waiting l.core.writing
   pub counts : IfSome l.dialer (λ d. WasHandedIn (dialer_of d).tries (dialer_of d).faults (dials_of l.core) l.core.failed_dials)
   pub given : IfSome l.input (λ i. l.given ≡ (line_of i).taken)
-
--- In what follows t and f are the counts with which a dialer was handed in.
-module _ {D : Type 0} (tries faults : D → ℕ) where
-  abbrev pub LinkCounts : {I O S : Type 0} → ℕ → ℕ → LinkBody D I O S → Type 0
-  LinkCounts t f l = IfSome l.dialer (λ d. CountsFrom t f (tries d) (faults d) (dials_of l.core) l.core.failed_dials)
 
 -- THE HALVES OF THE LINE stay where they wait to be taken.
 abbrev pub kept_if : {A : Type 0} → Bool → Option A → Option A

@@ -1,5 +1,5 @@
 -- What an event makes of a link, with the objects that come back with it.
-use Rattle.std.specs.Prelude.{ℕ, ◌≡◌, Option, None, Some, is_some, ⊤}
+use Rattle.std.specs.Prelude.{ℕ, ◌≡◌, Option, None, Some, is_some}
 use Rattle.ppp_base.specs.declared.posts.Post.{Post}
 use Rattle.ppp_link_rules.specs.Errands.{with_post_taken}
 use Rattle.ppp_link_rules.specs.LinkEvent.{Event, Begin, Dialled, Bytes, LineOver, Flushed, Tick, Signal, FromTable, HookOver}
@@ -8,7 +8,7 @@ use Rattle.ppp_link_rules.specs.LinkState.{LinkState}
 use Rattle.ppp_link.specs.declared.body.LinkBody.{LinkBody}
 use Rattle.ppp_link.specs.declared.event.LinkEvent.{LinkEvent}
 use Rattle.ppp_link.specs.declared.event.LinkEvent.TheVariants as event
-use Rattle.ppp_link.specs.ErrandValues.{DialDoneCounts, DialDoneState, ReadOverState, SentState}
+use Rattle.ppp_link.specs.ErrandValues.{DialDoneState, ReadOverState, SentState}
 use Rattle.ppp_link.specs.Link.{IsLink, halves_kept, with_core}
 
 -- which plain event it is
@@ -25,13 +25,26 @@ event_of (event.HookOver done) = HookOver done.target done.number done.not_start
 
 -- THE OBJECTS that come back with an event
 
--- a new line has given nothing
-abbrev pub with_line : {D I O S : Type 0} → Option (I × O) → LinkBody D I O S → LinkBody D I O S
-with_line None l = l
-with_line (Some line) l = record l { input = Some line.0; output = Some line.1; given = 0 }
+-- the halves of a line that a dial gave, if it gave one; a new line has given nothing
+abbrev pub input_with : {I O : Type 0} → Option (I × O) → Option I → Option I
+input_with None input = input
+input_with (Some line) input = Some line.0
+
+abbrev pub output_with : {I O : Type 0} → Option (I × O) → Option O → Option O
+output_with None output = output
+output_with (Some line) output = Some line.1
+
+abbrev pub given_with : {A : Type 0} → Option A → ℕ → ℕ
+given_with None given = given
+given_with (Some line) given = 0
 
 abbrev pub with_dial_in : {D I O S : Type 0} → DialDoneState D I O → LinkBody D I O S → LinkBody D I O S
-with_dial_in done l = record (with_line done.came l) { dialer = Some done.dialer }
+with_dial_in done l = record l {
+  dialer = Some done.dialer;
+  input = input_with done.came l.input;
+  output = output_with done.came l.output;
+  given = given_with done.came l.given;
+}
 
 abbrev pub with_reading_in : {D I O S : Type 0} → ReadOverState I → LinkBody D I O S → LinkBody D I O S
 with_reading_in over l = record l { input = Some over.input; given = over.taken }
@@ -62,18 +75,6 @@ pub record Takes {D I O S : Type 0} (plain : Event) (objects old new : LinkBody 
 -- An event was taken, with what came back with it.
 abbrev pub Steps : {D S I O : Type 0} → LinkEvent D S I O → LinkBody D I O S → LinkBody D I O S → Type 0
 Steps event old new = Takes (event_of event) (brought event old) old new
-
--- The counts of a dialer go on from those with which it was handed in.
-abbrev pub CountsCome : {D S I O : Type 0} → (D → ℕ) → (D → ℕ) → ℕ → ℕ → LinkEvent D S I O → Type 0
-CountsCome tries faults t f event.Begin = ⊤
-CountsCome tries faults t f (event.Dialled done) = DialDoneCounts tries faults t f done
-CountsCome tries faults t f (event.Bytes piece) = ⊤
-CountsCome tries faults t f (event.LineOver over) = ⊤
-CountsCome tries faults t f (event.Flushed sent) = ⊤
-CountsCome tries faults t f (event.Tick now) = ⊤
-CountsCome tries faults t f (event.Signal word) = ⊤
-CountsCome tries faults t f (event.FromTable post) = ⊤
-CountsCome tries faults t f (event.HookOver done) = ⊤
 
 -- AN ERRAND WAS GIVEN, or a post to the table taken: each state has become what this leaves.
 pub record Gives {D I O S : Type 0} (rule : LinkState → LinkState) (old new : LinkBody D I O S) : Type 0 where

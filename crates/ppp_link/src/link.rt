@@ -2,11 +2,12 @@ ghost use Rattle.std.specs.Prelude.{◌≡◌, ℕ, ◌<◌, ◌≤◌, ◌^◌,
 ghost use Rattle.ppp_lcp.specs.declared.wish.LcpWish.{LcpWish};
 ghost use Rattle.ppp_link_rules.specs.NewLink.{new_link};
 ghost use Rattle.ppp_link_rules.specs.Wishes.{IsWish};
-ghost use Rattle.ppp_link.specs.Link.{IsLink, LinkCounts};
+ghost use Rattle.ppp_link.specs.Link.{IsLink};
 
 use crate::body::LinkBody;
 use ppp_base::{LinkId, NoMemory};
 use ppp_link_events::new::make;
+use ppp_link_rules::lcp_wish;
 use ppp_option_words::LinkConfig;
 use ppp_outside::{Dialer, Spawner};
 use ppp_secrets::SecretsPair;
@@ -32,6 +33,7 @@ impl<D: Dialer, S: Spawner> Model for Link<D, S> {
 
 impl<D: Dialer, S: Spawner> Link<D, S> {
     /// A link that hasn't begun, whose log has room for so many marks. What was handed in is dropped where memory is refused.
+    #[tactic(auto, using(crate::proofs::LinkFacts::new_whole))]
     pub fn new(
         alloc: Global,
         id: LinkId,
@@ -50,8 +52,8 @@ impl<D: Dialer, S: Spawner> Link<D, S> {
         requires most { loglimit ≤ 1048576 }
         ensures new { IfOk result (λ l. (wish : LcpWish) → IsWish config wish → IsLink l (new_link id config wish secrets seed loglimit)) }
         ensures objects { IfOk result (λ l. (l.dialer ≡ Some dialer) × (l.input ≡ None) × (l.output ≡ None)) }
-        ensures counts { IfOk result (LinkCounts (λ d. (D.state d).tries) (λ d. (D.state d).faults) (D.state dialer).tries (D.state dialer).faults) }
     {
+        let _wish = lcp_wish(&config);
         let core = make(alloc, id, config, secrets, spawner, seed, loglimit)?;
         Ok(Link {
             body: LinkBody {

@@ -8,7 +8,7 @@ ghost use Rattle.ppp_link_rules.specs.declared.errand.Errand.TheVariants as erra
 ghost use Rattle.ppp_link_core.specs.Standing.{StandsFor};
 ghost use Rattle.ppp_link.specs.declared.event.LinkEvent.TheVariants as event;
 ghost use Rattle.ppp_link.specs.Link.{IsLink, IsWhole};
-ghost use Rattle.ppp_link.specs.Steps.{Takes, with_dial_in, with_line, with_reading_in, with_writing_in};
+ghost use Rattle.ppp_link.specs.Steps.{Takes, given_with, input_with, output_with, with_dial_in, with_reading_in, with_writing_in};
 
 use crate::body::LinkBody;
 use crate::dial_job::DialDone;
@@ -22,16 +22,20 @@ use ppp_link_rules::errand::ReadEnd;
 use ppp_outside::{Dialer, Spawner};
 
 // The halves of a line that a dial gave, if it gave one.
-fn put_line<D: Drop, I: Drop, O: Drop, S: Spawner>(
-    body: &mut LinkBody<D, I, O, S>,
+fn put_line<I: Drop, O: Drop>(
+    input: &mut Option<I>,
+    output: &mut Option<O>,
+    given: &mut u64,
     came: Option<(I, O)>,
 )
-    ensures { body.new ≡ with_line came body.old }
+    ensures input { input.new ≡ input_with came input.old }
+    ensures output { output.new ≡ output_with came output.old }
+    ensures given { given.new ≡ given_with came given.old }
 {
-    if let Some((input, output)) = came {
-        body.input = Some(input);
-        body.output = Some(output);
-        body.given = 0;
+    if let Some((reads, writes)) = came {
+        *input = Some(reads);
+        *output = Some(writes);
+        *given = 0;
     }
 }
 
@@ -46,14 +50,19 @@ fn put_dial_in<D: Dialer, S: Spawner>(
     ensures takes { Takes (Dialled done.link done.session done.failed (is_some done.came)) (with_dial_in done body.old) body.old body.new }
     ensures whole { IsWhole D.state D.In.state body.new }
 {
-    let came = done.came.is_some();
-    put_line(body, done.came);
+    events::take_dial(&mut body.core, done.came.is_some());
     body.dialer = Some(done.dialer);
-    events::take_dial(&mut body.core, came);
+    put_line(
+        &mut body.input,
+        &mut body.output,
+        &mut body.given,
+        done.came,
+    );
     keep_halves(body);
 }
 
 // A dial has come back. Another one than that which is out is stale.
+#[tactic(auto, using(crate::proofs::TellFacts::taken_by, crate::proofs::TellFacts::stale_by))]
 pub(crate) fn take_dialled<D: Dialer, S: Spawner>(
     body: &mut LinkBody<D, D::In, D::Out, S>,
     done: DialDone<D>,
@@ -83,9 +92,9 @@ fn put_reading_in<D: Dialer, S: Spawner>(
     ensures takes { Takes (LineOver over.link over.session over.end) (with_reading_in over body.old) body.old body.new }
     ensures whole { IsWhole D.state D.In.state body.new }
 {
+    events::take_reading_over(&mut body.core, over.end);
     body.input = Some(over.input);
     body.given = over.taken;
-    events::take_reading_over(&mut body.core, over.end);
     keep_halves(body);
 }
 
@@ -120,12 +129,13 @@ fn put_writing_in<D: Dialer, S: Spawner>(
     ensures takes { Takes (Flushed sent.link sent.session sent.end) (with_writing_in sent body.old) body.old body.new }
     ensures whole { IsWhole D.state D.In.state body.new }
 {
-    body.output = Some(sent.output);
     events::take_sent(&mut body.core, sent.end);
+    body.output = Some(sent.output);
     keep_halves(body);
 }
 
 // A writing has come back. Another one than that which is out is stale.
+#[tactic(auto, using(crate::proofs::TellFacts::taken_by, crate::proofs::TellFacts::stale_by))]
 pub(crate) fn take_sent<D: Dialer, S: Spawner>(
     body: &mut LinkBody<D, D::In, D::Out, S>,
     sent: Sent<D::Out>,

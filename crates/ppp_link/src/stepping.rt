@@ -2,8 +2,8 @@ ghost use Rattle.std.specs.Prelude.{◌≡◌, ◌↔◌, ℕ, true};
 ghost use Rattle.ppp_base.specs.Stepped.{IfStale, IsTaken, OnTaken};
 ghost use Rattle.ppp_link_rules.specs.LinkPart.{is_present};
 ghost use Rattle.ppp_link_rules.specs.LinkState.{LinkState};
-ghost use Rattle.ppp_link.specs.Link.{IsLink, LinkCounts};
-ghost use Rattle.ppp_link.specs.Steps.{CountsCome, Steps, event_of};
+ghost use Rattle.ppp_link.specs.Link.{IsLink};
+ghost use Rattle.ppp_link.specs.Steps.{Steps, event_of};
 
 use crate::event::LinkEvent;
 use crate::link::Link;
@@ -18,10 +18,6 @@ impl<D: Dialer, S: Spawner> Link<D, S> {
         ensures taken { (s : LinkState) → IsLink self.old s → (IsTaken result ↔ (is_present (event_of ev) s ≡ true)) }
         ensures part { OnTaken result (Steps ev self.old self.new) }
         ensures stale { IfStale result (λ back. (back ≡ ev) × (self.new ≡ self.old)) }
-
-        // The counts of its dialer go on from those with which it was handed in.
-        ensures counts { (t f : ℕ) → CountsCome (λ d. (D.state d).tries) (λ d. (D.state d).faults) t f ev
-            → LinkCounts (λ d. (D.state d).tries) (λ d. (D.state d).faults) t f self.old → LinkCounts (λ d. (D.state d).tries) (λ d. (D.state d).faults) t f self.new }
     {
         let body = &mut self.body;
         match ev {

@@ -4,10 +4,11 @@ ghost use Rattle.ppp_base.specs.declared.hook_target.HookTarget.TheVariants.{Lin
 ghost use Rattle.ppp_hooks.specs.HookWords.{words_of_start};
 ghost use Rattle.ppp_link_parts.specs.Records.{told};
 ghost use Rattle.ppp_link_rules.specs.Errands.{gives_dial, gives_job, gives_reading, gives_writing, with_dial_out, with_job_out, with_post_taken, with_reading_out, with_writing_out};
-ghost use Rattle.ppp_link_rules.specs.LinkState.{LinkState, control};
-ghost use Rattle.ppp_link.specs.ErrandValues.{DialJobCounts};
+ghost use Rattle.ppp_link_rules.specs.LinkState.{LinkState};
+ghost use Rattle.ppp_link_rules.specs.declared.errand.Errand.TheVariants as errand;
+ghost use Rattle.ppp_link_core.specs.Standing.{StandsFor};
 ghost use Rattle.ppp_link.specs.Given.{IsDialOf, IsReadingOf, IsWritingOf};
-ghost use Rattle.ppp_link.specs.Link.{IsLink, IsWhole, LinkCounts};
+ghost use Rattle.ppp_link.specs.Link.{IsLink, IsWhole};
 ghost use Rattle.ppp_link.specs.Steps.{Gives};
 
 use crate::body::LinkBody;
@@ -20,6 +21,27 @@ use ppp_hooks::HookJob;
 use ppp_link_events::{errands, looking};
 use ppp_outside::{Dialer, Spawner};
 
+// The dial that waits, with the dialer.
+fn make_dial<D: Dialer, S: Spawner>(body: &mut LinkBody<D, D::In, D::Out, S>) -> DialJob<D>
+    requires whole { IsWhole D.state D.In.state body.old }
+    requires waits { body.old.core.dial ≡ errand.Waiting }
+    ensures carries { (s : LinkState) → IsLink body.old s → IsDialOf body.old s result }
+    ensures gives { Gives with_dial_out body.old body.new }
+    ensures rest { body.new ≡ record body.old { core = body.new.core; dialer = None } }
+    ensures whole { IsWhole D.state D.In.state body.new }
+{
+    let dialer = body.dialer.take().unwrap();
+    let job = DialJob {
+        link: body.core.id,
+        session: body.core.records.session(),
+        failed: body.core.failed_dials,
+        line: body.core.config.line.copy(),
+        dialer,
+    };
+    errands::give_dial(&mut body.core);
+    job
+}
+
 // The dial that waits.
 fn give_dial<D: Dialer, S: Spawner>(
     body: &mut LinkBody<D, D::In, D::Out, S>,
@@ -30,24 +52,34 @@ fn give_dial<D: Dialer, S: Spawner>(
     ensures gives { OnSome result (Gives with_dial_out body.old body.new) }
     ensures rest { OnSome result (body.new ≡ record body.old { core = body.new.core; dialer = None }) }
     ensures none { IfNone result (body.new ≡ body.old) }
-    ensures counts { (t f : ℕ) → LinkCounts (λ d. (D.state d).tries) (λ d. (D.state d).faults) t f body.old → IfSome result (DialJobCounts (λ d. (D.state d).tries) (λ d. (D.state d).faults) t f) }
     ensures whole { IsWhole D.state D.In.state body.new }
 {
     let gives = looking::gives_dial(&body.core);
     if !gives {
         return None;
     }
-    let Some(dialer) = body.dialer.take() else {
-        return None;
-    };
-    errands::give_dial(&mut body.core);
-    Some(DialJob {
+    Some(make_dial(body))
+}
+
+// The reading that is wanted, with the half of the line.
+#[tactic(auto, using(crate::proofs::GiveFacts::reading_whole))]
+fn make_reading<D: Dialer, S: Spawner>(body: &mut LinkBody<D, D::In, D::Out, S>) -> Reading<D::In>
+    requires whole { IsWhole D.state D.In.state body.old }
+    requires gives { (s : LinkState) → StandsFor body.old.core s → gives_reading s ≡ true }
+    ensures carries { (s : LinkState) → IsLink body.old s → IsReadingOf body.old s result }
+    ensures gives { Gives with_reading_out body.old body.new }
+    ensures rest { body.new ≡ record body.old { core = body.new.core; input = None } }
+    ensures whole { IsWhole D.state D.In.state body.new }
+{
+    let input = body.input.take().unwrap();
+    let reading = Reading {
         link: body.core.id,
         session: body.core.records.session(),
-        failed: body.core.failed_dials,
-        line: body.core.config.line.copy(),
-        dialer,
-    })
+        taken: body.given,
+        input,
+    };
+    errands::give_reading(&mut body.core);
+    reading
 }
 
 // The reading, where it is in and the line is wanted.
@@ -66,16 +98,29 @@ fn give_reading<D: Dialer, S: Spawner>(
     if !gives {
         return None;
     }
-    let Some(input) = body.input.take() else {
-        return None;
-    };
-    errands::give_reading(&mut body.core);
-    Some(Reading {
-        link: body.core.id,
-        session: body.core.records.session(),
-        taken: body.given,
-        input,
-    })
+    Some(make_reading(body))
+}
+
+// The octets that wait first, with the half of the line.
+#[tactic(auto, using(crate::proofs::GiveFacts::writing_whole))]
+fn make_writing<D: Dialer, S: Spawner>(body: &mut LinkBody<D, D::In, D::Out, S>) -> Writing<D::Out>
+    requires whole { IsWhole D.state D.In.state body.old }
+    requires gives { (s : LinkState) → StandsFor body.old.core s → gives_writing s ≡ true }
+    ensures carries { (s : LinkState) → IsLink body.old s → IsWritingOf body.old s result }
+    ensures gives { Gives with_writing_out body.old body.new }
+    ensures rest { body.new ≡ record body.old { core = body.new.core; output = None } }
+    ensures whole { IsWhole D.state D.In.state body.new }
+{
+    let output = body.output.take().unwrap();
+    let link = body.core.id;
+    let session = body.core.records.session();
+    let octets = errands::give_writing(&mut body.core);
+    Writing {
+        link,
+        session,
+        octets,
+        output,
+    }
 }
 
 // A writing, where it is in and octets wait.
@@ -94,16 +139,7 @@ fn give_writing<D: Dialer, S: Spawner>(
     if !gives {
         return None;
     }
-    let Some(output) = body.output.take() else {
-        return None;
-    };
-    let octets = errands::give_writing(&mut body.core);
-    Some(Writing {
-        link: body.core.id,
-        session: body.core.records.session(),
-        octets,
-        output,
-    })
+    Some(make_writing(body))
 }
 
 // The script that was started.
@@ -147,7 +183,6 @@ impl<D: Dialer, S: Spawner> Link<D, S> {
         ensures gives { OnSome result (Gives with_dial_out self.old self.new) }
         ensures rest { OnSome result (self.new ≡ record self.old { core = self.new.core; dialer = None }) }
         ensures none { IfNone result (self.new ≡ self.old) }
-        ensures counts { (t f : ℕ) → LinkCounts (λ d. (D.state d).tries) (λ d. (D.state d).faults) t f self.old → IfSome result (DialJobCounts (λ d. (D.state d).tries) (λ d. (D.state d).faults) t f) }
     {
         give_dial(&mut self.body)
     }

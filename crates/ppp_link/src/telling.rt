@@ -63,6 +63,7 @@ fn hear<D: Dialer, S: Spawner>(body: &mut LinkBody<D, D::In, D::Out, S>, piece: 
 }
 
 // Octets of the line. Others than those that come next are stale.
+#[tactic(auto, using(crate::proofs::TellFacts::taken_by, crate::proofs::TellFacts::stale_by))]
 pub(crate) fn take_piece<D: Dialer, S: Spawner>(
     body: &mut LinkBody<D, D::In, D::Out, S>,
     piece: Piece,
@@ -93,6 +94,7 @@ fn follow<D: Dialer, S: Spawner>(body: &mut LinkBody<D, D::In, D::Out, S>, post:
 }
 
 // A post of the table. One that names another stay is stale.
+#[tactic(auto, using(crate::proofs::TellFacts::taken_by, crate::proofs::TellFacts::stale_by))]
 pub(crate) fn take_post<D: Dialer, S: Spawner>(
     body: &mut LinkBody<D, D::In, D::Out, S>,
     post: Post,
