@@ -45,7 +45,7 @@ pub job_counts : {D I O S : Type 0} {f : D → DialerState} {g : I → LineState
     → WasHandedIn (f d).tries (f d).faults ((told l.core.records).session - 1) l.core.failed_dials
 job_counts {f = f} {l = l} {d = d} w e there =
     subst (λ (n : ℕ). Tried f d n l.core.failed_dials) (ap (λ (x : Errand). made_by x (told l.core.records).session) e)
-        (at_some (λ x. Tried f x (dials_of l.core) l.core.failed_dials) l.dialer there w.counts)
+    (at_some (λ x. Tried f x (dials_of l.core) l.core.failed_dials) l.dialer there w.counts)
 
 pub dial_whole : {D I O S : Type 0} {f : D → DialerState} {g : I → LineState} {l : LinkBody D I O S} {c : LinkCore S} → Gave with_dial_out l.core c → Goes c → IsWhole f g l
     → IsWhole f g (record l { core = c; dialer = None })
@@ -157,10 +157,15 @@ post_whole (Some x) gave none goes w =
 pub body_gives : {D I O S : Type 0} {rule : LinkState → LinkState} {l n : LinkBody D I O S} → Gave rule l.core n.core → Gives rule l n
 body_gives gave = record { leaves = λ s k. gave.leaves s k }
 
-pub body_gives_some : {A D I O S : Type 0} {rule : LinkState → LinkState} {l n : LinkBody D I O S} (o : Option A) → OnSome o (Gave rule l.core n.core) → OnSome o (Gives rule l n)
-body_gives_some None gave = tt
-body_gives_some (Some x) gave = body_gives gave
+pub body_gives_some : {A D I O S : Type 0} (rule : LinkState → LinkState) (l n : LinkBody D I O S) (o : Option A) → OnSome o (Gave rule l.core n.core) → OnSome o (Gives rule l n)
+body_gives_some rule l n None gave = tt
+body_gives_some rule l n (Some x) gave = body_gives {l = l} {n = n} gave
 
-pub body_same : {A D I O S : Type 0} {l : LinkBody D I O S} {c : LinkCore S} (o : Option A) → IfNone o (c ≡ l.core) → IfNone o ((record l { core = c }) ≡ l)
-body_same {l = l} None e = ap (λ x. record l { core = x }) e
-body_same (Some x) e = tt
+-- an object that was taken is gone
+pub reading_keeps : {D I O S : Type 0} {f : D → DialerState} {g : I → LineState} {l : LinkBody D I O S} {c : LinkCore S} {v : Option I} → v ≡ None → Gave with_reading_out l.core c → Goes c → IsWhole f g l
+    → IsWhole f g (record l { core = c; input = v })
+reading_keeps {I = I} {f = f} {g = g} {l = l} {c = c} e gave goes w = subst (λ (x : Option I). IsWhole f g (record l { core = c; input = x })) (sym e) (reading_whole gave goes w)
+
+pub writing_keeps : {D I O S : Type 0} {f : D → DialerState} {g : I → LineState} {l : LinkBody D I O S} {c : LinkCore S} {v : Option O} → v ≡ None → Gave with_writing_out l.core c → Goes c → IsWhole f g l
+    → IsWhole f g (record l { core = c; output = v })
+writing_keeps {O = O} {f = f} {g = g} {l = l} {c = c} e gave goes w = subst (λ (x : Option O). IsWhole f g (record l { core = c; output = x })) (sym e) (writing_whole gave goes w)

@@ -1,5 +1,5 @@
 -- A link stays whole: its objects are where its errands say, and the counts of its dialer are those of its sessions.
-use Rattle.std.proofs.Common.{arith, refl, ap, sym, subst, ◌∙◌, ◌≡◌, ℕ, ◌+◌, ◌-◌, ◌<◌, ◌≤◌, Bool, true, false, not, Option, None, Some, is_some}
+use Rattle.std.proofs.Common.{arith, refl, ap, sym, subst, ◌∙◌, ◌≡◌, ℕ, ◌+◌, ◌-◌, ◌<◌, ◌≤◌, Bool, true, false, not, Option, None, Some, List, is_some}
 use Rattle.std.specs.Prelude.{IfSome}
 use Rattle.ppp_hooks.specs.HookState.{WasHandedIn}
 use Rattle.ppp_outside.specs.Dialer.{DialerState}
@@ -10,7 +10,8 @@ use Rattle.ppp_link_events.specs.Going.{Goes, IsGoing, Takes as Took}
 use Rattle.ppp_link_facts.specs.LinkStands.{LinkStands}
 use Rattle.ppp_link_parts.specs.Records.{told}
 use Rattle.ppp_link_rules.specs.declared.errand.Errand.{Errand}
-use Rattle.ppp_link_rules.specs.LinkEvent.{Event}
+use Rattle.ppp_link_rules.proofs.CountLemmas.{each_event}
+use Rattle.ppp_link_rules.specs.LinkEvent.{Bytes, Event}
 use Rattle.ppp_link_rules.specs.LinkPart.{after, is_present}
 use Rattle.ppp_link_rules.specs.LinkState.{LinkState, control, is_out, is_waiting}
 use Rattle.ppp_link.specs.declared.body.LinkBody.{LinkBody}
@@ -92,17 +93,41 @@ fits_whole {f = f} {l = l} w k = record {
 
 -- EVENTS WITH WHICH NO OBJECT COMES
 
--- What is so of each state that a machine stands for, of an event.
+-- An event is present at each state that a machine goes in.
 abbrev pub IsThere : {S : Type 0} → Event → LinkCore S → Type 0
-IsThere event c = (s : LinkState) → StandsFor c s → is_present event s ≡ true
+IsThere event c = (s : LinkState) → IsGoing c s → is_present event s ≡ true
 
 pub told_whole : {D I O S : Type 0} {f : D → DialerState} {g : I → LineState} {l : LinkBody D I O S} {c : LinkCore S} (event : Event)
     → brings_nothing event ≡ true → IsThere event l.core → Took event l.core c → Goes c → IsWhole f g l → IsWhole f g (halves_kept (with_core c l))
 told_whole event b there took goes w =
     let s : LinkState = w.goes.state in
     let k : IsGoing _ s = w.goes.going in
-    whole_by (fits_whole w k.stands) (each-moves event s b (in_step s k.holds)) (took.leaves s k (there s k.stands)).stands goes
+    whole_by (fits_whole w k.stands) (each-moves event s b (in_step s k.holds)) (took.leaves s k (there s k)).stands goes
 
 pub told_takes : {D I O S : Type 0} {l : LinkBody D I O S} {c : LinkCore S} (event : Event)
     → IsThere event l.core → Took event l.core c → Takes event l l (halves_kept (with_core c l))
-told_takes event there took = record { leaves = λ s k. took.leaves s k (there s k.stands); holds = refl }
+told_takes event there took = record { leaves = λ s k. took.leaves s k (there s k); holds = refl }
+
+pub takes_by : {D I O S : Type 0} {l n : LinkBody D I O S} {c : LinkCore S} (event : Event) → n ≡ halves_kept (with_core c l)
+    → IsThere event l.core → Took event l.core c → Takes event l l n
+takes_by {l = l} event is there took = subst (λ x. Takes event l l x) (sym is) (told_takes event there took)
+
+pub whole_told : {D I O S : Type 0} {f : D → DialerState} {g : I → LineState} {l n : LinkBody D I O S} {c : LinkCore S} (event : Event) → n ≡ halves_kept (with_core c l)
+    → brings_nothing event ≡ true → IsThere event l.core → Took event l.core c → Goes c → IsWhole f g l → IsWhole f g n
+whole_told {f = f} {g = g} event is b there took goes w = subst (λ x. IsWhole f g x) (sym is) (told_whole event b there took goes w)
+
+-- its number stays
+pub id_is : {S : Type 0} {c : LinkCore S} {s : LinkState} → StandsFor c s → c.id ≡ s.id
+id_is k = ap (λ (y : LinkState). y.id) k.is
+
+pub same_id : {S : Type 0} {a b : LinkCore S} (event : Event) → IsThere event a → Took event a b → Goes a → b.id ≡ a.id
+same_id event there took goes =
+    let s : LinkState = goes.state in
+    id_is (took.leaves s goes.going (there s goes.going)).stands ∙ ((each_event event s).id ∙ sym (id_is goes.going.stands))
+
+pub same_id_by : {D I O S : Type 0} {n : LinkBody D I O S} {c : LinkCore S} (l : LinkBody D I O S) (event : Event) → n ≡ halves_kept (with_core c l) → IsThere event l.core → Took event l.core c → Goes l.core → n.core.id ≡ l.core.id
+same_id_by {D = D} {I = I} {O = O} {S = S} l event is there took goes = ap (λ (x : LinkBody D I O S). x.core.id) is ∙ same_id event there took goes
+
+-- octets that were heard are those of a piece
+pub took_bytes : {S : Type 0} {a b : LinkCore S} {heard octets : List ℕ} (link session offset : ℕ) → heard ≡ octets → ((link session offset : ℕ) → Took (Bytes link session offset heard) a b) → Took (Bytes link session offset octets) a b
+took_bytes {a = a} {b = b} link session offset e took = subst (λ (x : List ℕ). Took (Bytes link session offset x) a b) e (took link session offset)

@@ -6,3 +6,4 @@ pub mod TellFacts
 pub mod ReturnFacts
 pub mod GiveFacts
 pub mod LinkFacts
+pub mod PostFacts

@@ -21,8 +21,8 @@ use Rattle.ppp_link.specs.declared.body.LinkBody.{LinkBody}
 use Rattle.ppp_link.specs.Link.{IsWhole}
 use Rattle.ppp_link.proofs.KeepFacts.{Tried, counts_to, dial_is, dials_is, failed_is, reading_is, writing_is}
 
-none_tried : {D : Type 0} {f : D → DialerState} (d : D) → (f d).tries < 2 ^ 63 → Tried f d 0 0
-none_tried d h = record { tries = omega arith; since_half = h; faults = omega arith }
+none_tried : {D : Type 0} (f : D → DialerState) (d : D) → (f d).tries < 2 ^ 63 → Tried f d 0 0
+none_tried f d h = record { tries = omega arith; since_half = h; faults = omega arith }
 
 new_by : {D I O S : Type 0} {f : D → DialerState} {g : I → LineState} {c : LinkCore S} {id seed limit : ℕ} {config : LinkValues} {secrets : SecretsPair} {wish : LcpWish} (d : D)
     → StandsFor c (new_link id config wish secrets seed limit) → Goes c → (f d).tries < 2 ^ 63
@@ -32,7 +32,7 @@ new_by {f = f} d k goes h = record {
   dialer = ap (λ (e : Errand). not (is_out e)) (sym (dial_is k));
   input = ap is_waiting (sym (reading_is k));
   output = ap is_waiting (sym (writing_is k));
-  counts = counts_to (Tried f) (Some d) (sym (dials_is k)) (sym (failed_is k)) (none_tried d h);
+  counts = counts_to (Tried f) (Some d) (sym (dials_is k)) (sym (failed_is k)) (none_tried f d h);
   given = tt;
 }
 

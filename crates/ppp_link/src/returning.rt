@@ -40,10 +40,7 @@ fn put_line<I: Drop, O: Drop>(
 }
 
 // The dial that was out.
-fn put_dial_in<D: Dialer, S: Spawner>(
-    body: &mut LinkBody<D, D::In, D::Out, S>,
-    done: DialDone<D>,
-)
+fn put_dial_in<D: Dialer, S: Spawner>(body: &mut LinkBody<D, D::In, D::Out, S>, done: DialDone<D>)
     requires whole { IsWhole D.state D.In.state body.old }
     requires out { body.old.core.dial ≡ errand.Out }
     requires present { (s : LinkState) → StandsFor body.old.core s → is_present (Dialled done.link done.session done.failed (is_some done.came)) s ≡ true }

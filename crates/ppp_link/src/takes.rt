@@ -7,6 +7,9 @@ ghost use Rattle.ppp_link_rules.specs.Errands.{gives_dial, gives_job, gives_read
 ghost use Rattle.ppp_link_rules.specs.LinkState.{LinkState};
 ghost use Rattle.ppp_link_rules.specs.declared.errand.Errand.TheVariants as errand;
 ghost use Rattle.ppp_link_core.specs.Standing.{StandsFor};
+ghost use Rattle.ppp_link_events.specs.Going.{Gives as Gave, Goes};
+ghost use Rattle.ppp_outside.specs.Dialer.{DialerState};
+ghost use Rattle.ppp_outside.specs.Line.{LineState};
 ghost use Rattle.ppp_link.specs.Given.{IsDialOf, IsReadingOf, IsWritingOf};
 ghost use Rattle.ppp_link.specs.Link.{IsLink, IsWhole};
 ghost use Rattle.ppp_link.specs.Steps.{Gives};
@@ -18,6 +21,7 @@ use crate::reading::Reading;
 use crate::writing::Writing;
 use ppp_base::UpPost;
 use ppp_hooks::HookJob;
+use ppp_link_core::link_core::LinkCore;
 use ppp_link_events::{errands, looking};
 use ppp_outside::{Dialer, Spawner};
 
@@ -43,9 +47,7 @@ fn make_dial<D: Dialer, S: Spawner>(body: &mut LinkBody<D, D::In, D::Out, S>) ->
 }
 
 // The dial that waits.
-fn give_dial<D: Dialer, S: Spawner>(
-    body: &mut LinkBody<D, D::In, D::Out, S>,
-) -> Option<DialJob<D>>
+fn give_dial<D: Dialer, S: Spawner>(body: &mut LinkBody<D, D::In, D::Out, S>) -> Option<DialJob<D>>
     requires whole { IsWhole D.state D.In.state body.old }
     ensures some { (s : LinkState) → IsLink body.old s → gives_dial s ≡ is_some result }
     ensures carries { (s : LinkState) → IsLink body.old s → IfSome result (IsDialOf body.old s) }
@@ -62,7 +64,6 @@ fn give_dial<D: Dialer, S: Spawner>(
 }
 
 // The reading that is wanted, with the half of the line.
-#[tactic(auto, using(crate::proofs::GiveFacts::reading_whole))]
 fn make_reading<D: Dialer, S: Spawner>(body: &mut LinkBody<D, D::In, D::Out, S>) -> Reading<D::In>
     requires whole { IsWhole D.state D.In.state body.old }
     requires gives { (s : LinkState) → StandsFor body.old.core s → gives_reading s ≡ true }
@@ -102,7 +103,6 @@ fn give_reading<D: Dialer, S: Spawner>(
 }
 
 // The octets that wait first, with the half of the line.
-#[tactic(auto, using(crate::proofs::GiveFacts::writing_whole))]
 fn make_writing<D: Dialer, S: Spawner>(body: &mut LinkBody<D, D::In, D::Out, S>) -> Writing<D::Out>
     requires whole { IsWhole D.state D.In.state body.old }
     requires gives { (s : LinkState) → StandsFor body.old.core s → gives_writing s ≡ true }
@@ -143,9 +143,7 @@ fn give_writing<D: Dialer, S: Spawner>(
 }
 
 // The script that was started.
-fn give_job<D: Dialer, S: Spawner>(
-    body: &mut LinkBody<D, D::In, D::Out, S>,
-) -> Option<HookJob<S>>
+fn give_job<D: Dialer, S: Spawner>(body: &mut LinkBody<D, D::In, D::Out, S>) -> Option<HookJob<S>>
     requires whole { IsWhole D.state D.In.state body.old }
     ensures some { (s : LinkState) → IsLink body.old s → gives_job s ≡ is_some result }
     ensures job { IfSome result (λ job. (job.target ≡ OfLink body.old.core.records.id) × (job.number ≡ (told body.old.core.records).starts)) }
@@ -160,19 +158,32 @@ fn give_job<D: Dialer, S: Spawner>(
 }
 
 // The post to the table that waits longest.
-pub(crate) fn give_post<D: Dialer, S: Spawner>(
-    body: &mut LinkBody<D, D::In, D::Out, S>,
+fn first_post<S: Spawner>(core: &mut LinkCore<S>) -> Option<UpPost>
+    requires goes { Goes core.old }
+    ensures first { core.old.up.waiting ≡ option_to_list result ++ core.new.up.waiting }
+    ensures empty { IfNone result (core.old.up.waiting ≡ []) }
+    ensures gives { OnSome result (Gave with_post_taken core.old core.new) }
+    ensures none { IfNone result (core.new ≡ core.old) }
+    ensures same { core.new.id ≡ core.old.id }
+    ensures goes { Goes core.new }
+{
+    core.up.take()
+}
+
+// The same, of a link, whatever its dialer and its line tell.
+pub(crate) fn give_post<D: Drop, I: Drop, O: Drop, S: Spawner>(
+    body: &mut LinkBody<D, I, O, S>,
 ) -> Option<UpPost>
-    requires whole { IsWhole D.state D.In.state body.old }
+    requires goes { Goes body.old.core }
     ensures first { body.old.core.up.waiting ≡ option_to_list result ++ body.new.core.up.waiting }
     ensures empty { IfNone result (body.old.core.up.waiting ≡ []) }
     ensures gives { OnSome result (Gives with_post_taken body.old body.new) }
     ensures rest { body.new ≡ record body.old { core = body.new.core } }
     ensures none { IfNone result (body.new ≡ body.old) }
     ensures same { body.new.core.id ≡ body.old.core.id }
-    ensures whole { IsWhole D.state D.In.state body.new }
+    ensures whole { (dialer_of : D → DialerState) (line_of : I → LineState) → IsWhole dialer_of line_of body.old → IsWhole dialer_of line_of body.new }
 {
-    errands::give_post(&mut body.core)
+    first_post(&mut body.core)
 }
 
 impl<D: Dialer, S: Spawner> Link<D, S> {

@@ -5,6 +5,9 @@ ghost use Rattle.ppp_link_rules.specs.LinkEvent.{Begin, Bytes, FromTable, HookOv
 ghost use Rattle.ppp_link_rules.specs.LinkPart.{is_present};
 ghost use Rattle.ppp_link_rules.specs.LinkState.{LinkState};
 ghost use Rattle.ppp_link_core.specs.Standing.{StandsFor};
+ghost use Rattle.ppp_link_events.specs.Going.{Goes};
+ghost use Rattle.ppp_outside.specs.Dialer.{DialerState};
+ghost use Rattle.ppp_outside.specs.Line.{LineState};
 ghost use Rattle.ppp_link.specs.declared.event.LinkEvent.TheVariants as event;
 ghost use Rattle.ppp_link.specs.Link.{IsLink, IsWhole};
 ghost use Rattle.ppp_link.specs.Steps.{Takes};
@@ -82,12 +85,13 @@ pub(crate) fn take_piece<D: Dialer, S: Spawner>(
     Stepped::Taken
 }
 
-// A post of the table that is for the link as it is.
-fn follow<D: Dialer, S: Spawner>(body: &mut LinkBody<D, D::In, D::Out, S>, post: Post)
-    requires whole { IsWhole D.state D.In.state body.old }
+// A post of the table that is for the link as it is, whatever its dialer and its line tell.
+fn follow<D: Drop, I: Drop, O: Drop, S: Spawner>(body: &mut LinkBody<D, I, O, S>, post: Post)
+    requires goes { Goes body.old.core }
     requires present { (s : LinkState) → StandsFor body.old.core s → is_present (FromTable post) s ≡ true }
     ensures takes { Takes (FromTable post) body.old body.old body.new }
-    ensures whole { IsWhole D.state D.In.state body.new }
+    ensures same { body.new.core.id ≡ body.old.core.id }
+    ensures whole { (dialer_of : D → DialerState) (line_of : I → LineState) → IsWhole dialer_of line_of body.old → IsWhole dialer_of line_of body.new }
 {
     events::take_post(&mut body.core, post);
     keep_halves(body);
@@ -95,15 +99,16 @@ fn follow<D: Dialer, S: Spawner>(body: &mut LinkBody<D, D::In, D::Out, S>, post:
 
 // A post of the table. One that names another stay is stale.
 #[tactic(auto, using(crate::proofs::TellFacts::taken_by, crate::proofs::TellFacts::stale_by))]
-pub(crate) fn take_post<D: Dialer, S: Spawner>(
-    body: &mut LinkBody<D, D::In, D::Out, S>,
+pub(crate) fn take_post<D: Drop, I: Drop, O: Drop, S: Spawner>(
+    body: &mut LinkBody<D, I, O, S>,
     post: Post,
 ) -> Stepped<Post>
-    requires whole { IsWhole D.state D.In.state body.old }
+    requires goes { Goes body.old.core }
     ensures taken { (s : LinkState) → IsLink body.old s → (IsTaken result ↔ (is_present (FromTable post) s ≡ true)) }
     ensures part { OnTaken result (Takes (FromTable post) body.old body.old body.new) }
     ensures stale { IfStale result (λ back. (back ≡ post) × (body.new ≡ body.old)) }
-    ensures whole { IsWhole D.state D.In.state body.new }
+    ensures same { body.new.core.id ≡ body.old.core.id }
+    ensures whole { (dialer_of : D → DialerState) (line_of : I → LineState) → IsWhole dialer_of line_of body.old → IsWhole dialer_of line_of body.new }
 {
     let present = looking::is_post_present(&body.core, &post);
     if !present {
