@@ -23,7 +23,6 @@ mod step;
 #[cfg(test)]
 mod tests;
 mod trace;
-mod trace_file;
 mod words;
 mod world_step;
 

@@ -253,6 +253,14 @@ fn tells_the_first_fault_of_a_full_trace(rt: HostRuntime) -> Result<(), Fail> {
             "bad trace: line 2: options\n",
         ),
         (
+            "full 1\noptions 1\nsocket h:1 connect 'chat -f trace'\npap 0\nchap 0\n",
+            "bad trace: line 2: options\n",
+        ),
+        (
+            "full 1\noptions 1\nsocket h:1 connect 'chat OK AT'\npap 0\nchap 0\n",
+            "",
+        ),
+        (
             "full 1\noptions 1\nsocket h:1\npap 1\na\nchap 0\n",
             "bad trace: line 4: secrets\n",
         ),
