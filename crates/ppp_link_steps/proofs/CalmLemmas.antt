@@ -1,5 +1,5 @@
 -- Each rule keeps what is so of a link between two calls.
-use Rattle.std.proofs.Common.{◌≡◌, ◌≤◌, ℕ, Bool, true, false, Option, None, Some, List, [], ◌∷◌, ◌++◌, refl, ap, sym, subst, ◌∙◌, arith}
+use Rattle.std.proofs.Common.{◌≡◌, ◌≤◌, ℕ, Bool, true, false, Option, None, Some, List, [], ◌∷◌, ◌++◌, refl, ap, sym, ◌∙◌, arith}
 use Rattle.std.specs.Prelude.{◌+◌, ◌&&◌, ◌||◌, if◌then◌else◌, is_none, is_some}
 use Rattle.ppp_auth.specs.Outcome.{outcome_in}
 use Rattle.ppp_auth.specs.Phase.{told_at}
@@ -10,7 +10,7 @@ use Rattle.ppp_auth.specs.declared.outcome.AuthNow.{AuthNow}
 use Rattle.ppp_auth.specs.declared.outcome.AuthNow.TheVariants.{Going, Passed, PeerFailed, WeFailed}
 use Rattle.ppp_base.specs.declared.hook_target.HookTarget.TheVariants.{Link}
 use Rattle.ppp_control.specs.Past.{Happened, automaton_after, moved_by}
-use Rattle.ppp_control.specs.Rules.{Call, by_itself, closes, comes_up, event_in, goes_down, happened_in, opens, rejects, ticks}
+use Rattle.ppp_control.specs.Rules.{Call, by_itself, closes, comes_up, event_in, goes_down, happened_in, rejects, ticks}
 use Rattle.ppp_fsm.proofs.MovingLemmas.{shut_by_close, stays_until_open, within_ten}
 use Rattle.ppp_fsm.specs.Fsm.{Automaton}
 use Rattle.ppp_fsm.specs.Moving.{is_open_event, is_shut}
@@ -30,7 +30,7 @@ use Rattle.ppp_mark.specs.declared.mark.Mark.{Mark}
 use Rattle.ppp_packet.specs.declared.agreed.Agreed.{Agreed}
 use Rattle.ppp_packet.specs.declared.packet.Packet.{Packet}
 use Rattle.ppp_link_rules.specs.Authentication.{asked_by, asked_if, auth_opened, called_part as phase_part, ended_by_outcome, join_tried, new_phase, opened_for, phase_begun, phase_begun_by, phase_called, phase_told, with_phase}
-use Rattle.ppp_link_rules.specs.Ending.{auth_closed, caused, closed_if, closed_marked, closed_part, closing, ended_by, ended_if, first_caused_by, given_up, lcp_closed, lcp_left, left_by, left_if, with_call}
+use Rattle.ppp_link_rules.specs.Ending.{auth_closed, caused, closed_if, closed_marked, closed_part, ended_by, ended_if, first_caused_by, given_up, lcp_closed, lcp_left, left_by, left_if, with_call}
 use Rattle.ppp_link_rules.specs.Hearing.{ended_if_many, has_many, looked_after}
 use Rattle.ppp_link_rules.specs.LcpAnswer.{lcp_answer}
 use Rattle.ppp_link_rules.specs.LcpCalls.{answered, called_part, cause_of, followed, followed_by, lcp_called, lcp_entered, open_marked, protocol_rejected}

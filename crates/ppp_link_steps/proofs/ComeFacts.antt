@@ -1,13 +1,11 @@
 -- The dial comes back: what the machine stands for behind each piece.
-use Rattle.std.proofs.Common.{◌≡◌, ◌≤◌, ◌<◌, ℕ, Bool, true, false, Option, None, Some, List, [], refl, ap, sym, subst, ◌∙◌, arith}
+use Rattle.std.proofs.Common.{◌≡◌, ◌≤◌, ◌<◌, ℕ, Bool, true, false, Some, [], refl, ap, sym, subst, ◌∙◌, arith}
 use Rattle.std.specs.Prelude.{◌+◌, ◌&&◌, is_none, is_some}
 use Rattle.ppp_base.specs.RandomWords.{branch_of, state_after}
-use Rattle.ppp_fsm.specs.declared.fsm.Limits.{Limits}
 use Rattle.ppp_lcp.specs.Session.{StandsFor as IsLcp}
 use Rattle.ppp_lcp.specs.declared.lcp.Lcp.{Lcp}
 use Rattle.ppp_lcp.specs.declared.wish.LcpWish.{LcpWish}
 use Rattle.ppp_mark.specs.Marks.{line_mark}
-use Rattle.ppp_option_words.specs.LinkValues.{LinkValues}
 use Rattle.ppp_outside.specs.declared.line_words.LineWords.{LineWords}
 use Rattle.ppp_link_parts.specs.Records.{DialStands, RecordsNow, marked_with, told}
 use Rattle.ppp_link_rules.specs.CauseStatus.{dial_failed}
@@ -16,7 +14,7 @@ use Rattle.ppp_link_rules.specs.Hearing.{talk_begun}
 use Rattle.ppp_link_rules.specs.LinkState.{LinkState, control, is_absent, is_busy, is_lasting}
 use Rattle.ppp_link_rules.specs.Marks.{is_session}
 use Rattle.ppp_link_rules.specs.Sessions.{dial_come, line_come, line_come_if, with_dial_back, with_failure, with_line}
-use Rattle.ppp_link_rules.specs.Wishes.{IsWish, lcp_wish}
+use Rattle.ppp_link_rules.specs.Wishes.{IsWish}
 use Rattle.ppp_link_rules.specs.declared.errand.Errand.{Errand}
 use Rattle.ppp_link_rules.specs.declared.errand.Errand.TheVariants.{Absent, Waiting, Out}
 use Rattle.ppp_link_core.proofs.StandFacts.{at_state, lives_after}
@@ -24,6 +22,8 @@ use Rattle.ppp_link_core.specs.Standing.{Does, Lives, Sits, StandsFor, histories
 use Rattle.ppp_link_core.specs.declared.link_core.LinkCore.{LinkCore}
 use Rattle.ppp_link_steps.proofs.CalmLemmas.{calm_keeps, ended_keeps}
 use Rattle.ppp_link_steps.proofs.DialFacts.{still_by, still_sits}
+use Rattle.ppp_link_steps.proofs.TalkLemmas.{begun_calm}
+use Rattle.ppp_link_steps.proofs.WishFacts.{wishes_equal}
 use Rattle.ppp_link_steps.specs.Calm.{Calm, IsCalm, IsStill, may_talk, pending}
 use Rattle.ppp_link_steps.specs.Come.{no_line_back}
 
@@ -119,4 +119,113 @@ no_line_calm {c = c} d e calm =
       state = no_line_back s;
       stands = d.stands s calm.stands;
       calm = calm_keeps (ended_keeps dial_failed (with_failure s)) (failed_calm s calm.calm (out_at s calm.stands e));
+    }
+
+-- A LINE COMES
+
+pub line_does : {S : Type 0} {c : LinkCore S} {r : RecordsNow S} {l : Lcp} {wish : LcpWish} {made left : ℕ}
+    → r ≡ marked_with (line_mark c.time (told c.records).session) c.records → ((line : LineWords) → DialStands line c.records → DialStands line r)
+    → IsWish c.config wish → IsLcp wish made l [] → made ≡ branch_of c.words → left ≡ state_after 2 c.words
+    → Does with_line c (record c { records = r; reading = Waiting; writing = Waiting; lcp = Some l; words = left })
+line_does {c = c} {r = r} {l = l} {wish = wish} {made = made} {left = left} e dials asks negotiates f g = record {
+  stands = λ s k.
+      let one : wish ≡ s.wish = wishes_equal asks k.asks in
+      let two : made ≡ branch_of s.words = f ∙ ap (λ (y : LinkState). branch_of y.words) k.is in
+      record {
+        is = at_state c s (λ y. state_of (record c { records = r; reading = Waiting; writing = Waiting; lcp = Some l; words = left }) (histories_of (with_line y)) ≡ with_line y) k (rw (e, g) refl);
+        id = rw e k.id;
+        moment = k.moment;
+        asks = k.asks;
+        listens = k.listens;
+        negotiates = subst (λ x. IsLcp x (branch_of s.words) l []) one (subst (λ x. IsLcp wish x l []) two negotiates);
+        proves = k.proves;
+        dials = dials c.config.line k.dials;
+        policy = rw e k.policy;
+        fits = k.fits;
+        passes = k.passes;
+      };
+}
+
+pub line_lives : {S : Type 0} {c : LinkCore S} {r : RecordsNow S} {l : Lcp} {wish : LcpWish} {made left : ℕ}
+    → r ≡ marked_with (line_mark c.time (told c.records).session) c.records → ((line : LineWords) → DialStands line c.records → DialStands line r)
+    → IsWish c.config wish → IsLcp wish made l [] → made ≡ branch_of c.words → left ≡ state_after 2 c.words
+    → Lives c → Lives (record c { records = r; reading = Waiting; writing = Waiting; lcp = Some l; words = left })
+line_lives e dials asks negotiates f g l = lives_after (line_does e dials asks negotiates f g) l
+
+pub line_sits : {S : Type 0} {c : LinkCore S} {was : Bool} → is_some c.auth ≡ false → Sits was c
+line_sits e = record { none = λ _. e }
+
+pub come_does : {S : Type 0} {a b c : LinkCore S} → Does with_line a b → Does talk_begun b c → Does line_come a c
+unfolding line_come
+come_does x y = record { stands = λ s k. y.stands (with_line s) (x.stands s k) }
+
+pub come_then : {S : Type 0} {a b : LinkCore S} {busy : Bool} → busy ≡ true → Does line_come a b → Does (line_come_if busy) a b
+come_then {b = b} e d = record { stands = λ s k. subst (λ x. StandsFor b (line_come_if x s)) (sym e) (d.stands s k) }
+
+pub come_else : {S : Type 0} {a : LinkCore S} {busy : Bool} → busy ≡ false → Does (line_come_if busy) a a
+come_else {a = a} e = record { stands = λ s k. subst (λ x. StandsFor a (line_come_if x s)) (sym e) k }
+
+pub taken_does : {S : Type 0} {a b c : LinkCore S} {busy : Bool} → Does with_dial_back a b
+    → busy ≡ (is_session (told b.records).doing && is_none (told b.records).cause) → Does (line_come_if busy) b c → Does (dial_come true) a c
+taken_does {b = b} {c = c} x e y = record {
+  stands = λ s k.
+      let there : StandsFor b (with_dial_back s) = x.stands s k in
+      subst (λ z. StandsFor c (line_come_if z (with_dial_back s))) (e ∙ ap (λ (z : LinkState). is_busy z) there.is) (y.stands (with_dial_back s) there);
+}
+
+pub sits_back : {S : Type 0} {b : LinkCore S} (a : LinkCore S) → b ≡ record a { dial = b.dial } → Sits (opened a.lcp) a → Sits (opened b.lcp) b
+sits_back {S = S} a e h = record { none = λ g. ap (λ (x : LinkCore S). is_some x.auth) e ∙ h.none (ap (λ (x : LinkCore S). opened x.lcp) (sym e) ∙ g) }
+
+-- while the dial is out there is no phase of authentication
+pub out_phase : {S : Type 0} {b : LinkCore S} (a : LinkCore S) → b ≡ record a { dial = b.dial } → Calm a → a.dial ≡ Out → Sits (opened a.lcp) a → is_some b.auth ≡ false
+out_phase {S = S} a e calm f sits =
+    let s : LinkState = calm.state in
+    ap (λ (x : LinkCore S). is_some x.auth) e ∙ still_sits s calm.stands (out_still s calm.calm (out_at s calm.stands f)) sits
+
+pub back_then : {S : Type 0} {a b : LinkCore S} {came : Bool} → came ≡ true → Does (dial_come true) a b → Does (dial_come came) a b
+back_then {b = b} e d = record { stands = λ s k. subst (λ x. StandsFor b (dial_come x s)) (sym e) (d.stands s k) }
+
+pub back_else : {S : Type 0} {a b : LinkCore S} {came : Bool} → came ≡ false → Does no_line_back a b → Does (dial_come came) a b
+back_else {b = b} e d = record { stands = λ s k. subst (λ x. StandsFor b (dial_come x s)) (sym e) (d.stands s k) }
+
+-- AND IT STAYS CALM WITH A LINE
+
+few_back : (failed session : ℕ) (dial : Errand) → failed + pending dial ≤ session → failed + 0 ≤ session
+few_back failed session dial h = omega (arith, h)
+
+talks : (s : LinkState) → is_busy s ≡ true → may_talk (with_line (with_dial_back s)) ≡ true
+talks s e = both (is_lasting s) (is_none (control s).cause) e
+  where
+    both : (a b : Bool) → (a && b) ≡ true → (b && true) ≡ true
+    both true true e = refl
+    both true false e = absurd (let x : false ≡ true = e in cc)
+    both false b e = absurd (let x : false ≡ true = e in cc)
+
+with_line_calm : (s : LinkState) → is_busy s ≡ true → IsCalm s → IsCalm (with_line (with_dial_back s))
+with_line_calm s e c = record {
+  still = λ g. absurd (let x : true ≡ false = sym (talks s e) ∙ g in cc);
+  few = few_back s.failed_dials (control s).session s.dial c.few;
+}
+
+come_calm : (s : LinkState) → is_busy s ≡ true → IsCalm s → IsCalm (line_come (with_dial_back s))
+unfolding line_come
+come_calm s e c = begun_calm (with_line (with_dial_back s)) (talks s e) (with_line_calm s e c)
+
+dropped_calm : (s : LinkState) → IsCalm s → s.dial ≡ Out → IsCalm (with_dial_back s)
+dropped_calm s c e = record {
+  still = λ _. still_by s (with_dial_back s) refl refl refl (out_still s c e);
+  few = few_back s.failed_dials (control s).session s.dial c.few;
+}
+
+come_if_calm : (busy : Bool) (s : LinkState) → is_busy s ≡ busy → IsCalm s → s.dial ≡ Out → IsCalm (line_come_if busy (with_dial_back s))
+come_if_calm true s e c f = come_calm s e c
+come_if_calm false s e c f = dropped_calm s c f
+
+pub taken_calm : {S : Type 0} {a c : LinkCore S} → Does (dial_come true) a c → a.dial ≡ Out → Calm a → Calm c
+taken_calm d e calm =
+    let s : LinkState = calm.state in
+    record {
+      state = dial_come true s;
+      stands = d.stands s calm.stands;
+      calm = come_if_calm (is_busy s) s refl calm.calm (out_at s calm.stands e);
     }

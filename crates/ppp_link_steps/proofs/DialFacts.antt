@@ -1,6 +1,6 @@
 -- What the dial answers: what the machine stands for behind each piece.
-use Rattle.std.proofs.Common.{◌≡◌, ◌≤◌, ℕ, Bool, true, false, Option, None, Some, List, [], ◌∷◌, refl, ap, sym, subst, ◌∙◌, arith}
-use Rattle.std.specs.Prelude.{◌==◌, ◌^◌, ◌+◌, ◌&&◌, is_none, is_some}
+use Rattle.std.proofs.Common.{◌≡◌, ◌≤◌, ℕ, Bool, true, false, Option, None, Some, [], refl, ap, sym, subst, ◌∙◌, arith}
+use Rattle.std.specs.Prelude.{◌==◌, ◌+◌, ◌&&◌, is_none, is_some}
 use Rattle.std.proofs.lemmas.Bool.Decides.{nat_tests}
 use Rattle.ppp_base.specs.RingAfter.{Ring}
 use Rattle.ppp_chat.specs.Script.{ChatScript}
@@ -14,7 +14,6 @@ use Rattle.ppp_dial.specs.declared.dial.Dial.{Dial}
 use Rattle.ppp_dial.specs.declared.now.DialNow.{DialNow}
 use Rattle.ppp_dial.specs.declared.now.DialNow.TheVariants.{Nothing, Begin, Hold, Wait, Finish}
 use Rattle.ppp_dial.specs.declared.policy.DialPolicy.{DialPolicy}
-use Rattle.ppp_dial.specs.declared.stage.Stage.{Stage}
 use Rattle.ppp_dial.specs.declared.stage.Stage.TheVariants as stage
 use Rattle.ppp_fsm.specs.Moving.{is_shut}
 use Rattle.ppp_hdlc.specs.Deframing.{Deframing, fresh}
@@ -23,7 +22,7 @@ use Rattle.ppp_lcp.specs.declared.lcp.Lcp.{Lcp}
 use Rattle.ppp_link_parts.specs.Records.{DialStands, RecordsNow, answer_marked, log_answered, says, stage_by, told}
 use Rattle.ppp_link_parts.specs.Talk.{Listens, TalkNow}
 use Rattle.ppp_link_rules.specs.Dialling.{dial_says, dialled_in}
-use Rattle.ppp_link_rules.specs.LinkState.{LinkState, Listener, Nobody, control, is_absent, is_busy, is_lasting, lcp_state, state_in}
+use Rattle.ppp_link_rules.specs.LinkState.{LinkState, Listener, Nobody, control, is_absent, is_lasting, lcp_state, state_in}
 use Rattle.ppp_link_rules.specs.Marks.{Dials, Doing, HasFinished, HasLine, Holds, IsOver, New, Waits, is_session, stay_in}
 use Rattle.ppp_link_rules.specs.Sessions.{attempted, dial_answered}
 use Rattle.ppp_link_rules.specs.declared.errand.Errand.{Errand}
@@ -32,11 +31,11 @@ use Rattle.ppp_mark.specs.Log.{LogState, room_of}
 use Rattle.ppp_mark.specs.Scripts.{said_in}
 use Rattle.ppp_outside.specs.declared.line_words.LineWords.{LineWords}
 use Rattle.ppp_link_core.proofs.AuthFacts.{none_of}
-use Rattle.ppp_link_core.proofs.ReaderFacts.{state_none, state_some}
+use Rattle.ppp_link_core.proofs.ReaderFacts.{state_some}
 use Rattle.ppp_link_core.proofs.StandFacts.{at_state, lives_after}
 use Rattle.ppp_link_core.specs.Standing.{Does, Lives, Sits, StandsFor, histories_of, opened, state_of}
 use Rattle.ppp_link_core.specs.declared.link_core.LinkCore.{LinkCore}
-use Rattle.ppp_link_steps.specs.Calm.{Calm, IsCalm, IsStill, is_chatting, may_talk, pending}
+use Rattle.ppp_link_steps.specs.Calm.{Calm, IsCalm, IsStill, is_chatting, pending}
 use Rattle.ppp_link_steps.specs.Dialled.{dial_asked, dial_followed, dial_marked, kind_of, session_made}
 use Rattle.ppp_link_steps.specs.declared.dialling.DialAsk.{DialAsk}
 use Rattle.ppp_link_steps.specs.declared.dialling.DialAsk.TheVariants as ask

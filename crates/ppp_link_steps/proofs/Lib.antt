@@ -11,3 +11,5 @@ mod NewFacts
 mod LineFacts
 mod ErrandFacts
 pub mod ComeFacts
+mod WishFacts
+pub mod HearFacts

@@ -1,5 +1,5 @@
 -- Signals: what the machine stands for behind each piece.
-use Rattle.std.proofs.Common.{◌≡◌, ◌≤◌, ℕ, Bool, true, false, Option, None, Some, List, ◌∷◌, refl, ap, sym, subst, ◌∙◌, arith}
+use Rattle.std.proofs.Common.{◌≡◌, ℕ, Bool, true, false, Option, None, Some, List, ◌∷◌, refl, ap, sym, subst, ◌∙◌}
 use Rattle.std.specs.Prelude.{◌||◌, ◌&&◌, is_none, is_some}
 use Rattle.ppp_base.specs.declared.signal_word.SignalWord.{SignalWord}
 use Rattle.ppp_base.specs.declared.signal_word.SignalWord.TheVariants.{Hup, Int, Term, Usr1, Usr2}
@@ -13,7 +13,6 @@ use Rattle.ppp_dial.specs.declared.now.DialNow.{DialNow}
 use Rattle.ppp_hooks.specs.HookPast.{open_in}
 use Rattle.ppp_mark.specs.Log.{added, room_of}
 use Rattle.ppp_mark.specs.Marks.{signal_mark, signal_number}
-use Rattle.ppp_mark.specs.Scripts.{said_in}
 use Rattle.ppp_mark.specs.declared.mark.Mark.{Mark}
 use Rattle.ppp_outside.specs.declared.line_words.LineWords.{LineWords}
 use Rattle.ppp_link_parts.specs.Records.{DialStands, RecordsNow, answer_marked, log_answered, marked_with, says, stage_by, told}
@@ -23,7 +22,7 @@ use Rattle.ppp_link_rules.specs.Ending.{ended_by}
 use Rattle.ppp_link_rules.specs.LinkState.{LinkState, control, is_busy, is_lasting}
 use Rattle.ppp_link_rules.specs.Marks.{Dials, Doing, HasFinished, HasLine, Holds, IsOver, New, Waits, hold_by, is_session, status_by}
 use Rattle.ppp_link_rules.specs.Sessions.{dial_answered}
-use Rattle.ppp_link_rules.specs.Signals.{hung_up, hung_up_by, signal_marked, signal_taken, stopped, stopped_by, stopping}
+use Rattle.ppp_link_rules.specs.Signals.{hung_up, hung_up_by, signal_marked, signal_taken, stopped, stopped_by}
 use Rattle.ppp_link_rules.specs.declared.cause.Cause.{Cause}
 use Rattle.ppp_link_core.proofs.StandFacts.{at_state, lives_after}
 use Rattle.ppp_link_core.specs.Standing.{Does, Lives, Sits, StandsFor, histories_of, opened, state_of}
@@ -31,7 +30,7 @@ use Rattle.ppp_link_core.specs.declared.link_core.LinkCore.{LinkCore}
 use Rattle.ppp_link_steps.proofs.CalmLemmas.{Same, calm_keeps, ended_keeps, keeps_same}
 use Rattle.ppp_link_steps.proofs.DialFacts.{answered_calm, answered_is, free_from, last_is, marked_said, marked_stay, rests, still_sits}
 use Rattle.ppp_link_steps.specs.Calm.{Calm, IsCalm}
-use Rattle.ppp_link_steps.specs.Dialled.{dial_asked, dial_followed, held_up, session_hup, signal_told, stopped_now}
+use Rattle.ppp_link_steps.specs.Dialled.{dial_followed, held_up, session_hup, signal_told, stopped_now}
 
 signal_is : (word : SignalWord) (s : LinkState) → Same s (signal_marked word s)
 signal_is word s = record { doing = refl; cause = refl; session = refl; dial = refl; failed = refl; lcp = refl; wish = refl; listener = refl }

@@ -1,6 +1,6 @@
 -- A session that talks stays calm: its chat is given up with its first cause.
-use Rattle.std.proofs.Common.{◌≡◌, ℕ, Bool, true, false, Option, None, Some, List, [], ◌∷◌, ◌++◌, refl, ap, sym, ◌∙◌}
-use Rattle.ppp_chat.specs.Event.{octet_at, tick_at}
+use Rattle.std.proofs.Common.{◌≡◌, Bool, true, false, Option, None, Some, List, [], ◌∷◌, ◌++◌, refl, ap, sym, ◌∙◌}
+use Rattle.ppp_chat.specs.Event.{tick_at}
 use Rattle.ppp_chat.specs.Script.{ChatScript}
 use Rattle.ppp_chat.specs.declared.event.Event.{Event}
 use Rattle.ppp_chat.specs.declared.now.ChatNow.{ChatNow}
@@ -9,9 +9,8 @@ use Rattle.ppp_control.specs.Rules.{by_itself, comes_up, opens}
 use Rattle.ppp_link_rules.specs.Hearing.{chat_answer, chat_called, chat_ticked, chat_ticked_by, chat_told, link_opened, talk_begun, talk_begun_by}
 use Rattle.ppp_link_rules.specs.LcpCalls.{lcp_called}
 use Rattle.ppp_link_rules.specs.LinkState.{Chatting, Framing, LinkState, Listener, Nobody}
-use Rattle.ppp_link_rules.specs.Sending.{octets_sent}
 use Rattle.ppp_link_steps.proofs.CalmLemmas.{Keeps, calm_keeps, ended_keeps, keeps, keeps_same, lcp_called_keeps, lcp_wanted_keeps, no_open_up, keeps_then}
-use Rattle.ppp_link_steps.specs.Calm.{IsCalm, IsStill, is_chatting, may_talk}
+use Rattle.ppp_link_steps.specs.Calm.{IsCalm, is_chatting, may_talk}
 
 abbrev framing : LinkState → LinkState
 framing s = record s { listener = Framing }

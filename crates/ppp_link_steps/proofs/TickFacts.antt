@@ -1,6 +1,6 @@
 -- A tick: what the machine stands for behind each piece.
-use Rattle.std.proofs.Common.{◌≡◌, ◌≤◌, ℕ, Bool, true, false, Option, None, Some, List, [], ◌∷◌, refl, ap, sym, subst, ◌∙◌, arith}
-use Rattle.std.specs.Prelude.{◌&&◌, ◌^◌, is_none, is_some, max, min, filter, nat_le}
+use Rattle.std.proofs.Common.{◌≡◌, ◌≤◌, ℕ, Bool, true, false, Option, None, Some, List, refl, ap, sym, subst, ◌∙◌, arith}
+use Rattle.std.specs.Prelude.{◌&&◌, ◌^◌, is_some, max, min, filter, nat_le}
 use Rattle.std.proofs.lemmas.Bool.Decides.{nat_tests}
 use Rattle.ppp_auth.specs.Setting.{waits}
 use Rattle.ppp_auth.specs.declared.phase.AuthPhase.{AuthPhase}
@@ -9,21 +9,23 @@ use Rattle.ppp_dial.specs.declared.call.CallKind.TheVariants as call
 use Rattle.ppp_lcp.specs.Session.{LcpCall, StandsFor as IsLcp, deadline_after}
 use Rattle.ppp_lcp.specs.declared.lcp.Lcp.{Lcp}
 use Rattle.ppp_lcp.specs.declared.wish.LcpWish.{LcpWish}
-use Rattle.ppp_timer.specs.Due.{due_slots, has_come, moment_of, slots}
+use Rattle.ppp_timer.specs.Due.{has_come, moment_of, slots}
 use Rattle.ppp_timer.specs.declared.slot.Slot.{Slot}
 use Rattle.ppp_timer.specs.declared.slot.Slot.TheVariants.{LcpRestart, AuthRestart, AuthEnd, Echo, Hold, IpcpRestart, Idle, Connect}
 use Rattle.ppp_link_parts.specs.Records.{told}
 use Rattle.ppp_link_rules.specs.Authentication.{phase_called}
+use Rattle.ppp_link_rules.specs.Hearing.{chat_ticked}
 use Rattle.ppp_link_rules.specs.LcpCalls.{lcp_called}
 use Rattle.ppp_link_rules.specs.LinkState.{AuthPart, LcpPart, LinkState, control}
 use Rattle.ppp_link_rules.specs.Marks.{hold_by}
-use Rattle.ppp_link_rules.specs.Ticking.{lcp_moment, moments_of, phase_moment, slots_treated, timers_treated, treated_if, with_time}
+use Rattle.ppp_link_rules.specs.Ticking.{lcp_moment, moments_of, phase_moment, slots_treated, ticked, timers_treated, treated_if, with_time}
 use Rattle.ppp_link_rules.specs.declared.limits.TheConstants.{MOST_TIME}
 use Rattle.ppp_link_core.proofs.StandFacts.{at_state, lives_after}
-use Rattle.ppp_link_core.specs.Standing.{AuthStands, Does, LcpStands, Lives, Sits, StandsFor, histories_of, opened, state_of}
+use Rattle.ppp_link_core.specs.Standing.{AuthStands, Does, LcpStands, Lives, Sits, StandsFor, histories_of, state_of}
 use Rattle.ppp_link_core.specs.declared.link_core.LinkCore.{LinkCore}
 use Rattle.ppp_link_steps.proofs.CalmLemmas.{Keeps, calm_keeps, keeps, keeps_same, lcp_called_keeps, no_open_tick, phase_keeps}
 use Rattle.ppp_link_steps.proofs.DialFacts.{calm_does}
+use Rattle.ppp_link_steps.proofs.TalkLemmas.{ticked_calm}
 use Rattle.ppp_link_steps.specs.Calm.{Calm}
 use Rattle.ppp_link_steps.specs.Dialled.{dial_asked}
 use Rattle.ppp_link_steps.specs.Slots.{slot_if, timers_ticked}
@@ -185,3 +187,12 @@ timers_does {a = a} {d = d} {lcp = lcp} {auth = auth} {hold = hold} {moment = mo
 
 pub ticked_does : {S : Type 0} {a b c : LinkCore S} (now : ℕ) → Does (with_time now) a b → Does timers_treated b c → Does (timers_ticked now) a c
 ticked_does now x y = record { stands = λ s k. y.stands (with_time now s) (x.stands s k) }
+
+-- THE CHAT
+
+pub all_ticked : {S : Type 0} {a b c : LinkCore S} (now : ℕ) → Does (timers_ticked now) a b → Does chat_ticked b c → Does (ticked now) a c
+unfolding ticked
+all_ticked now x y = record { stands = λ s k. y.stands (timers_ticked now s) (x.stands s k) }
+
+pub all_calm : {S : Type 0} {a b : LinkCore S} → Does chat_ticked a b → Calm a → Calm b
+all_calm d calm = calm_does (λ s c. ticked_calm s c) d calm

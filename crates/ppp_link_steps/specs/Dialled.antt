@@ -1,5 +1,5 @@
 -- What the dial answers, cut at its mark: the log has the mark, and an attempt makes the session's fields anew.
-use Rattle.std.specs.Prelude.{ℕ, false, None, []}
+use Rattle.std.specs.Prelude.{false, None, []}
 use Rattle.ppp_base.specs.declared.signal_word.SignalWord.{SignalWord}
 use Rattle.ppp_base.specs.declared.signal_word.SignalWord.TheVariants.{Hup}
 use Rattle.ppp_dial.specs.declared.call.CallKind.{CallKind}

@@ -5,6 +5,7 @@
 pub mod coming;
 pub mod dialling;
 pub mod errands;
+pub mod hearing;
 pub mod jobs;
 pub mod line;
 pub mod new;

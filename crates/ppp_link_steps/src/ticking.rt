@@ -5,7 +5,7 @@ ghost use Rattle.ppp_mark.specs.Log.{room_of};
 ghost use Rattle.ppp_mark.specs.ScriptLog.{Grows};
 ghost use Rattle.ppp_timer.specs.declared.slot.Slot.TheVariants.{LcpRestart, AuthRestart, Hold};
 ghost use Rattle.ppp_link_rules.specs.LinkState.{LinkState};
-ghost use Rattle.ppp_link_rules.specs.Ticking.{lcp_moment, timers_treated, treated_if, with_time};
+ghost use Rattle.ppp_link_rules.specs.Ticking.{lcp_moment, ticked, timers_treated, treated_if, with_time};
 ghost use Rattle.ppp_link_rules.specs.declared.limits.TheConstants.{MOST_TIME};
 ghost use Rattle.ppp_link_core.specs.Standing.{Does, Lives, Sits, StandsFor, opened};
 ghost use Rattle.ppp_link_steps.specs.Calm.{Calm};
@@ -14,6 +14,7 @@ ghost use Rattle.ppp_link_steps.specs.Slots.{slot_if, timers_ticked};
 use crate::dialling::{DialAsk, ask_dial};
 use ppp_link_core::asks::LcpAsk;
 use ppp_link_core::link_core::LinkCore;
+use ppp_link_hearing::chat::tick_chat;
 use ppp_link_rules::limits::MOST_TIME;
 use ppp_outside::Spawner;
 use ppp_timer::has_come;
@@ -201,4 +202,21 @@ pub fn tick_timers<S: Spawner>(core: &mut LinkCore<S>, now: u64)
 {
     set_time(core, now);
     treat_slots(core);
+}
+
+/// A tick: the time is set, the slots that are due are treated, and then a chat that hears looks at the time.
+#[tactic(auto, using(crate::proofs::TickFacts::all_ticked))]
+pub fn tick<S: Spawner>(core: &mut LinkCore<S>, now: u64)
+    requires lives { Lives core.old }
+    requires room { 47 ≤ room_of core.old.records.scripts.log }
+    requires sits { Sits (opened core.old.lcp) core.old }
+    requires calm { Calm core.old }
+    ensures does { Does (ticked now) core.old core.new }
+    ensures sits { Sits (opened core.new.lcp) core.new }
+    ensures calm { Calm core.new }
+    ensures grows { Grows 47 core.old.records.scripts.log core.new.records.scripts.log }
+    ensures lives { Lives core.new }
+{
+    tick_timers(core, now);
+    tick_chat(core);
 }
