@@ -178,6 +178,11 @@ impl LinkPlace {
         self.told = self.link.log().count();
     }
 
+    /// How many of its marks weren't told.
+    pub fn fresh(&self) -> u32 {
+        self.link.log().count().saturating_sub(self.told)
+    }
+
     /// Its first mark that wasn't told.
     pub fn next_mark(&mut self) -> Option<Mark> {
         let mark = self.link.log().get(self.told)?;

@@ -1,5 +1,3 @@
-ghost use Rattle.std.specs.Prelude.{length};
-
 use crate::place::take_numbered;
 use ppp_base::{NoMemory, Unit};
 use ppp_hooks::{HookDone, HookJob};
@@ -41,6 +39,11 @@ impl UnitPlace {
     /// Its marks so far count as told.
     pub fn all_told(&mut self, table: &Table<ReplaySpawner>, unit: Unit) {
         self.told = table.log(unit).count();
+    }
+
+    /// How many of its marks weren't told.
+    pub fn fresh(&self, table: &Table<ReplaySpawner>, unit: Unit) -> u32 {
+        table.log(unit).count().saturating_sub(self.told)
     }
 
     /// Its first mark that wasn't told.

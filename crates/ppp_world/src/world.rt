@@ -1,6 +1,10 @@
+ghost use Rattle.std.specs.Prelude.{◌≡◌, ◌<◌, ◌++◌, IfNone, IfOk, IfSome, OnSome, [], option_map, option_to_list, replicate};
+ghost use Rattle.ppp_table_parts.specs.Deliveries.{piece_of};
+ghost use Rattle.ppp_world.specs.World.{new_spawner};
+
 use crate::out::WorldOut;
 use crate::place::LinkPlace;
-use crate::units::{UNITS, UnitPlace, unit_places};
+use crate::units::{UnitPlace, unit_places};
 use ppp_base::{LinkId, NoMemory, RandomWords, Unit};
 use ppp_carry::carry;
 use ppp_mark::{LogName, Mark};
@@ -11,6 +15,7 @@ use ppp_table::{Delivery, Table, TableEvent};
 use ppp_trace::WorldStep;
 use rand_core::Rng;
 use std::alloc::Global;
+use std::marker::Model;
 
 /// The links and units of a configuration, over the outside in memory.
 #[derive(Drop)]
@@ -20,6 +25,16 @@ pub struct World {
     table: Table<ReplaySpawner>,
     // The place of the object whose marks are told next: links first, then units.
     at: usize,
+    // How many of the last step's new marks weren't taken yet.
+    fresh: u32,
+}
+
+impl Model for World {
+    ghost use Rattle.ppp_world.specs.World.{WorldState};
+
+    ghost Value = { WorldState };
+
+    ghost view = { λ w. record { fresh = w.fresh; given = w.table.deliveries.waiting } };
 }
 
 // The links of a configuration, each with the generator's state after as many turns as its number.
@@ -31,9 +46,11 @@ fn link_places(
 ) -> Result<Vec<LinkPlace>, NoMemory> {
     let mut words = RandomWords::new(seed);
     let mut links = Vec::new(alloc);
+    let mut number = 0u8;
     for own in config.links.as_slice() {
         let _ = words.next_u32();
-        let Some(id) = LinkId::new(links.len() as u8 + 1) else {
+        number = number.saturating_add(1);
+        let Some(id) = LinkId::new(number) else {
             return Ok(links);
         };
         links.push(LinkPlace::new(alloc, id, own, secrets, words.state(), config.loglimit)?)?;
@@ -42,10 +59,12 @@ fn link_places(
 }
 
 // Sixteen spawners.
-fn spawners(alloc: Global) -> Result<Vec<ReplaySpawner>, NoMemory> {
+fn spawners(alloc: Global) -> Result<Vec<ReplaySpawner>, NoMemory>
+    ensures { IfOk result (λ spawners. spawners.items ≡ replicate 16 new_spawner) }
+{
     let mut spawners = Vec::new(alloc);
-    for _unit in 0..UNITS {
-        spawners.push(ReplaySpawner::new())?;
+    for _unit in 0..16u8 {
+        spawners.insert(0, ReplaySpawner::new())?;
     }
     Ok(spawners)
 }
@@ -65,12 +84,20 @@ impl World {
             units: unit_places(alloc)?,
             table,
             at: 0,
+            fresh: 0,
         })
     }
 
     /// One step of a trace. What is left of the marks and deliveries of the last one is dropped.
     pub fn step(&mut self, step: &WorldStep) -> WorldOut {
         self.drop_rest();
+        let out = self.takes(step);
+        self.count_fresh();
+        out
+    }
+
+    // What a step does.
+    fn takes(&mut self, step: &WorldStep) -> WorldOut {
         match step {
             WorldStep::TableTick { ms } => WorldOut::silent(self.table_takes(TableEvent::Tick(
                 *ms,
@@ -87,43 +114,100 @@ impl World {
     }
 
     /// The datagram that the last step gave first, of those that weren't taken yet.
-    pub fn take_given(&mut self) -> Option<Delivery> {
+    pub fn take_given(&mut self) -> Option<Delivery>
+        ensures first { self.old.given ≡ option_to_list (option_map piece_of result) ++ self.new.given }
+        ensures none { IfNone result (self.old.given ≡ []) }
+        ensures marks { self.new.fresh ≡ self.old.fresh }
+    {
         self.table.take_delivery()
     }
 
     /// The first of the last step's new marks that weren't taken yet: those of links, then those of units.
-    pub fn take_mark(&mut self) -> Option<(LogName, Mark)> {
-        'looking: while self.at < self.links.len() + self.units.len() {
+    pub fn take_mark(&mut self) -> Option<(LogName, Mark)>
+        ensures fewer { OnSome result (self.new.fresh < self.old.fresh) }
+        ensures given { self.new.given ≡ self.old.given }
+    {
+        if self.fresh == 0 {
+            return None;
+        }
+        self.fresh -= 1;
+        self.find_mark()
+    }
+
+    // The first new mark of the objects whose marks aren't all told.
+    fn find_mark(&mut self) -> Option<(LogName, Mark)>
+        ensures { self.new ≡ record self.old { links = self.new.links; units = self.new.units; at = self.new.at } }
+    {
+        for _object in 0..32u8 {
             if let Some(mark) = self.next_mark() {
                 return Some(mark);
             }
-            self.at += 1;
+            self.at = self.at.saturating_add(1);
         }
         None
     }
 
     // The first mark that wasn't told of the object whose marks are told.
-    fn next_mark(&mut self) -> Option<(LogName, Mark)> {
+    fn next_mark(&mut self) -> Option<(LogName, Mark)>
+        ensures { self.new ≡ record self.old { links = self.new.links; units = self.new.units } }
+    {
         let links = self.links.len();
-        if let Some(place) = self.links.get_mut(self.at) {
-            let link = LinkId::new(self.at as u8 + 1)?;
-            let mark = place.next_mark()?;
-            return Some((LogName::Link(link), mark));
+        if self.at < links {
+            self.next_of_link()
+        } else {
+            self.next_of_unit(self.at - links)
         }
-        let unit = Unit::new((self.at - links) as u8)?;
-        let place = self.units.get_mut(self.at - links)?;
+    }
+
+    // The first mark of the link that wasn't told.
+    fn next_of_link(&mut self) -> Option<(LogName, Mark)>
+        ensures { self.new ≡ record self.old { links = self.new.links } }
+    {
+        let number = u8::try_from(self.at).ok()?;
+        let link = LinkId::new(number.saturating_add(1))?;
+        let place = self.links.get_mut(self.at)?;
+        let mark = place.next_mark()?;
+        Some((LogName::Link(link), mark))
+    }
+
+    // The first mark of the unit at this place that wasn't told.
+    fn next_of_unit(&mut self, at: usize) -> Option<(LogName, Mark)>
+        ensures { self.new ≡ record self.old { units = self.new.units } }
+    {
+        let unit = Unit::new(u8::try_from(at).ok()?)?;
+        let place = self.units.get_mut(at)?;
         let mark = place.next_mark(&self.table, unit)?;
         Some((LogName::Unit(unit), mark))
     }
 
+    // Counts the new marks.
+    fn count_fresh(&mut self) {
+        let mut fresh = 0u32;
+        for place in self.links.iter() {
+            fresh = fresh.saturating_add(place.fresh());
+        }
+        for number in 0..16u8 {
+            fresh = fresh.saturating_add(self.unit_fresh(number));
+        }
+        self.fresh = fresh;
+    }
+
+    // How many new marks a unit has.
+    fn unit_fresh(&self, number: u8) -> u32 {
+        match (Unit::new(number), self.units.get(number as usize)) {
+            (Some(unit), Some(place)) => place.fresh(&self.table, unit),
+            _ => 0,
+        }
+    }
+
     // What the last step made and nobody took is dropped.
     fn drop_rest(&mut self) {
-        'dropping: while let Some(_delivery) = self.table.take_delivery() {}
+        drop_given(&mut self.table);
         self.at = 0;
         for place in self.links.iter_mut() {
             place.all_told();
         }
-        for number in 0..UNITS as u8 {
+        for number in 0..16u8 {
             self.unit_told(number);
         }
     }
@@ -140,7 +224,7 @@ impl World {
 
     // Takes the scripts of units out that wait.
     fn take_unit_jobs(&mut self) {
-        for number in 0..UNITS as u8 {
+        for number in 0..16u8 {
             self.take_unit_job(number);
         }
     }
@@ -196,6 +280,11 @@ impl World {
         place.take_errands();
         out
     }
+}
+
+// The datagrams that nobody took are dropped.
+fn drop_given(table: &mut Table<ReplaySpawner>) {
+    'dropping: while let Some(_delivery) = table.take_delivery() {}
 }
 
 // The link that a step names, where it is one of a link.
