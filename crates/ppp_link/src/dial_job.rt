@@ -41,14 +41,18 @@ pub struct DialDone<D: Dialer> {
 }
 
 impl<D: Dialer> Model for DialDone<D> {
+    ghost use Rattle.std.specs.Prelude.{IfSome};
     ghost use Rattle.ppp_hooks.specs.HookState.{WasHandedIn};
+    ghost use Rattle.ppp_outside.specs.Line.{IsNewLine};
+    ghost use Rattle.ppp_outside.specs.Sink.{IsNewSink};
     ghost use Rattle.ppp_link.specs.ErrandValues.{DialDoneState, failed_with};
 
     ghost Value = { DialDoneState D D.In D.Out };
 
     ghost view = { λ d. record { link = d.link; session = d.session; failed = d.failed; dialer = d.dialer; came = d.came } };
 
-    ghost invariant = { λ d. WasHandedIn (D.state d.dialer).tries (D.state d.dialer).faults d.session (failed_with d.failed d.came) };
+    ghost invariant = { λ d. WasHandedIn (D.state d.dialer).tries (D.state d.dialer).faults d.session (failed_with d.failed d.came)
+        × IfSome d.came (λ line. IsNewLine (D.In.state line.0) × IsNewSink (D.Out.state line.1)) };
 }
 
 impl<D: Dialer> DialJob<D> {

@@ -5,15 +5,27 @@
 //! `LinkPart` of the crate `ppp_link_rules` says what each of the nine events makes of a link.
 #![tactic(auto)]
 
+pub mod body;
 mod dial_job;
+mod ends;
+mod event;
+mod keeping;
 pub mod laws;
+mod link;
 mod piece;
+mod readers;
 mod reading;
+mod returning;
+mod stepping;
+mod takes;
+mod telling;
 #[cfg(test)]
 mod tests;
 mod writing;
 
 pub use dial_job::{DialDone, DialJob};
+pub use event::LinkEvent;
+pub use link::Link;
 pub use piece::Piece;
 pub use ppp_link_rules::{
     Cause, Errand, FrameCounts, LinkView, ReadEnd, SentEnd, auth_config, dial_policy, lcp_wish,
