@@ -1,9 +1,9 @@
 -- The trace that is made from a number. By turns a drawn link does the next step of its life, until there are as many lines as are wanted.
-use Rattle.std.specs.Prelude.{ℕ, zero, suc, ◌+◌, ◌-◌, ◌*◌, ◌/◌, ◌%◌, ◌==◌, false, if◌then◌else◌, List, [], ◌∷◌, ◌++◌, length, take, drop, codes, replicate, slice_set, slice_index_or}
+use Rattle.std.specs.Prelude.{ℕ, zero, suc, ◌+◌, ◌-◌, ◌*◌, ◌/◌, ◌%◌, ◌==◌, false, if◌then◌else◌, List, [], ◌∷◌, ◌++◌, length, min, take, drop, codes, replicate, slice_set, slice_index_or}
 use Rattle.std.specs.Fmt.{decimal}
 use Rattle.std.specs.Int.{w32, to_be_bytes}
 use Rattle.ppp_base.specs.Hex.{lower_digit}
-use Rattle.ppp_base.specs.RandomWords.{next_state, next_word, state_after, word_at}
+use Rattle.ppp_base.specs.RandomWords.{next_state, next_word}
 use Rattle.ppp_base.specs.declared.send_settings.SendSettings.{SendSettings}
 use Rattle.ppp_hdlc.specs.Encoding.{encoding}
 use Rattle.ppp_trace.specs.declared.life.LifeStep.{LifeStep}
@@ -53,6 +53,13 @@ hears link octets = link_line link (codes " rx ") ++ hex_text octets
 abbrev pub plain : SendSettings
 plain = record { map = 4294967295; pfc = false; acfc = false }
 
+-- a word is drawn: its octets, the most significant first, and what is made behind it
+unfoldable pub word_octets : Made → List ℕ
+word_octets m = to_be_bytes w32 (next_word m.words)
+
+unfoldable pub after_word : Made → Made
+after_word m = record m { words = next_state m.words }
+
 -- Octets come in two pieces; the next word tells where they are cut.
 abbrev pub cut_of : ℕ → List ℕ → ℕ
 cut_of word octets = 1 + word % (length octets - 1)
@@ -60,17 +67,23 @@ cut_of word octets = 1 + word % (length octets - 1)
 unfoldable pub in_pieces : ℕ → List ℕ → Made → Made
 in_pieces link octets m =
     let cut = cut_of (next_word m.words) octets in
-    said (hears link (drop cut octets)) (said (hears link (take cut octets)) (record m { words = next_state m.words }))
+    said (hears link (drop cut octets)) (said (hears link (take cut octets)) (after_word m))
 
 abbrev pub heard : ℕ → ℕ → List ℕ → Made → Made
 heard link protocol information = in_pieces link (encoding plain protocol information)
 
--- the octets of the next five words
-abbrev pub five_words : ℕ → List ℕ
-five_words s = to_be_bytes w32 (word_at 0 s) ++ (to_be_bytes w32 (word_at 1 s) ++ (to_be_bytes w32 (word_at 2 s) ++ (to_be_bytes w32 (word_at 3 s) ++ to_be_bytes w32 (word_at 4 s))))
+-- the octets of five words
+abbrev pub five_words : Made → List ℕ
+five_words m =
+    (((word_octets m ++ word_octets (after_word m)) ++ word_octets (after_word (after_word m))) ++ word_octets (after_word (after_word (after_word m))))
+    ++ word_octets (after_word (after_word (after_word (after_word m))))
 
 abbrev pub drawn : Made → Made
-drawn m = record m { words = state_after 5 m.words }
+drawn m = after_word (after_word (after_word (after_word (after_word m))))
+
+-- a datagram for the peer of the link's unit
+abbrev pub packet_line : ℕ → List ℕ → List ℕ
+packet_line link octets = (codes "packet " ++ (decimal (link - 1) ++ codes " ")) ++ hex_text octets
 
 -- The end of a job of the link's unit, which has the number before the link's.
 abbrev pub script_ends : ℕ → ℕ → List ℕ
@@ -78,20 +91,20 @@ script_ends link job = (codes "unit " ++ (decimal (link - 1) ++ codes " hook "))
 
 -- what a link does in this life
 unfoldable pub lived : ℕ → ℕ → LifeStep → Made → Made
-lived link life does.Begin m = said (link_line link (codes " begin")) m
-lived link life does.DialOk m = said (link_line link (codes " dial ok")) m
-lived link life does.Sent m = said (link_line link (codes " sent ok")) m
-lived link life does.AsksLcp m = heard link 0xc021 (1 ∷ 1 ∷ 0 ∷ 4 ∷ []) m
-lived link life does.AcksLcp m = heard link 0xc021 (2 ∷ 1 ∷ 0 ∷ 14 ∷ 2 ∷ 6 ∷ 0 ∷ 0 ∷ 0 ∷ 0 ∷ 7 ∷ 2 ∷ 8 ∷ 2 ∷ []) m
-lived link life does.Carry m = said (codes "carry " ++ (decimal link ++ [])) m
-lived link life does.AsksIp m = heard link 0x8021 (1 ∷ 1 ∷ 0 ∷ 10 ∷ 3 ∷ 6 ∷ 10 ∷ 0 ∷ link ∷ 2 ∷ []) m
-lived link life does.AcksIp m = heard link 0x8021 (2 ∷ 1 ∷ 0 ∷ 10 ∷ 3 ∷ 6 ∷ 10 ∷ 0 ∷ link ∷ 1 ∷ []) m
-lived link life does.FirstEnds m = said (script_ends link (2 * life - 1)) m
-lived link life does.Packet m = said ((codes "packet " ++ (decimal (link - 1) ++ codes " ")) ++ hex_text (five_words m.words)) (drawn m)
-lived link life does.Datagram m = heard link 0x21 (five_words m.words) (drawn m)
-lived link life does.Terminates m = heard link 0xc021 (5 ∷ 7 ∷ 0 ∷ 4 ∷ []) m
-lived link life does.SecondEnds m = said (script_ends link (2 * life)) m
-lived link life does.LineEnd m = said (link_line link (codes " line end")) m
+lived link number does.Begin m = said (link_line link (codes " begin")) m
+lived link number does.DialOk m = said (link_line link (codes " dial ok")) m
+lived link number does.Sent m = said (link_line link (codes " sent ok")) m
+lived link number does.AsksLcp m = heard link 0xc021 (1 ∷ 1 ∷ 0 ∷ 4 ∷ []) m
+lived link number does.AcksLcp m = heard link 0xc021 (2 ∷ 1 ∷ 0 ∷ 14 ∷ 2 ∷ 6 ∷ 0 ∷ 0 ∷ 0 ∷ 0 ∷ 7 ∷ 2 ∷ 8 ∷ 2 ∷ []) m
+lived link number does.Carry m = said (codes "carry " ++ (decimal link ++ [])) m
+lived link number does.AsksIp m = heard link 0x8021 (1 ∷ 1 ∷ 0 ∷ 10 ∷ 3 ∷ 6 ∷ 10 ∷ 0 ∷ link ∷ 2 ∷ []) m
+lived link number does.AcksIp m = heard link 0x8021 (2 ∷ 1 ∷ 0 ∷ 10 ∷ 3 ∷ 6 ∷ 10 ∷ 0 ∷ link ∷ 1 ∷ []) m
+lived link number does.FirstEnds m = said (script_ends link (2 * number - 1)) m
+lived link number does.Packet m = said (packet_line link (five_words m)) (drawn m)
+lived link number does.Datagram m = heard link 0x21 (five_words m) (drawn m)
+lived link number does.Terminates m = heard link 0xc021 (5 ∷ 7 ∷ 0 ∷ 4 ∷ []) m
+lived link number does.SecondEnds m = said (script_ends link (2 * number)) m
+lived link number does.LineEnd m = said (link_line link (codes " line end")) m
 
 -- ---- turns
 
@@ -104,17 +117,17 @@ pub record Turns : Type 0 where
 abbrev pub drawn_link : ℕ → ℕ → ℕ
 drawn_link links word = word % links
 
--- a link's next step
+-- a link's next step; its steps are counted as far as a count goes
 abbrev pub next_step : ℕ → Turns → Turns
 next_step place t =
     let done = slice_index_or t.done place 0 in
-    record { made = lived (place + 1) (life_of done) (step_of done) t.made; done = slice_set t.done place (done + 1) }
+    record { made = lived (place + 1) (life_of done) (step_of done) t.made; done = slice_set t.done place (min (done + 1) 4294967295) }
 
 -- A turn draws a word, where a line is left.
 unfoldable pub turn : ℕ → Turns → Turns
 turn links t =
     if t.made.left == 0 then t
-    else next_step (drawn_link links (next_word t.made.words)) (record t { made = record t.made { words = next_state t.made.words } })
+    else next_step (drawn_link links (next_word t.made.words)) (record t { made = after_word t.made })
 
 -- As many turns as lines are more than enough.
 abbrev pub turns : ℕ → ℕ → Turns → Turns

@@ -1,4 +1,4 @@
-ghost use Rattle.std.specs.Prelude.{◌≡◌};
+ghost use Rattle.std.specs.Prelude.{◌≡◌, ◌≤◌, ◌<◌, ◌^◌};
 ghost use Rattle.ppp_trace.specs.MadeTrace.{life_of, step_of};
 
 /// What a link of a made trace does next.
@@ -73,7 +73,8 @@ pub fn step_of(done: u32) -> LifeStep
 /// In which of its lives it is then, from 1 on.
 #[tactic(auto, unfolding(crate::specs::MadeTrace::life_of))]
 pub fn life_of(done: u32) -> u32
-    ensures { result ≡ life_of done }
+    ensures value { result ≡ life_of done }
+    ensures range { (1 ≤ result) × (result < 2 ^ 31) }
 {
     if done == 0 { 1 } else { 1 + (done - 1) / 19 }
 }

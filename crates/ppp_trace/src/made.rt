@@ -1,14 +1,16 @@
-ghost use Rattle.std.specs.Prelude.{◌≡◌, ◌+◌, ◌-◌, ◌*◌, ◌≤◌, ◌<◌, ◌^◌, ◌++◌, codes, IfOk, OnOk, length};
+ghost use Rattle.std.specs.Prelude.{◌≡◌, ◌+◌, ◌-◌, ◌*◌, ◌≤◌, ◌<◌, ◌^◌, ◌++◌, [], codes, OnOk, length};
 ghost use Rattle.std.specs.Fmt.{decimal};
-ghost use Rattle.ppp_base.specs.RandomWords.{state_after};
-ghost use Rattle.ppp_trace.specs.MadeTrace.{five_words, hears, heard, hex_text, in_pieces, link_line, lived, said, script_ends};
+ghost use Rattle.ppp_trace.specs.MadeTrace.{after_word, drawn, five_words, hears, heard, in_pieces, link_line, lived, packet_line, said, script_ends, word_octets};
 
 use crate::life::LifeStep;
 use crate::made_line::{framed, with_hex, with_number};
-use ppp_base::{NoMemory, RandomWords, protocol};
+use ppp_base::{NoMemory, Octets, RandomWords, protocol};
 use rand_core::Rng;
 use std::alloc::Global;
 use std::marker::Model;
+
+// The acknowledgement of our LCP request: asyncmap 0, and both compressions.
+const LCP_ACK: [u8; 14] = [2, 1, 0, 14, 2, 6, 0, 0, 0, 0, 7, 2, 8, 2];
 
 /// A made trace as far as it goes: the generator, how many lines are left, and the lines so far.
 #[derive(Drop)]
@@ -27,8 +29,7 @@ impl Model for Making {
 }
 
 impl Making {
-    ghost use Rattle.std.specs.Prelude.{[]};
-    ghost use Rattle.ppp_base.specs.RandomWords.{next_state, next_word};
+    ghost use Rattle.ppp_base.specs.RandomWords.{next_word};
 
     /// Nothing is made yet, and so many lines are wanted.
     pub fn new(alloc: Global, seed: u64, lines: u32) -> Making
@@ -56,9 +57,10 @@ impl Making {
     }
 
     /// Draws a word.
+    #[tactic(auto, unfolding(crate::specs::MadeTrace::after_word))]
     pub fn word(&mut self) -> u32
         ensures word { result ≡ next_word self.old.words }
-        ensures made { self.new ≡ record self.old { words = next_state self.old.words } }
+        ensures made { self.new ≡ after_word self.old }
     {
         self.words.next_u32()
     }
@@ -119,17 +121,29 @@ impl Making {
         self.hear_in_pieces(alloc, link, frame.as_slice())
     }
 
-    // Draws the twenty octets of five words.
-    fn draw(&mut self) -> [u8; 20]
-        ensures octets { result ≡ five_words self.old.words }
-        ensures made { self.new ≡ record self.old { words = state_after 5 self.old.words } }
+    // Draws a word, and appends its octets.
+    #[tactic(auto, unfolding(crate::specs::MadeTrace::after_word, crate::specs::MadeTrace::word_octets))]
+    fn add_word(&mut self, octets: &mut Octets<20>)
+        requires { length octets.old ≤ 16 }
+        ensures octets { octets.new ≡ octets.old ++ word_octets self.old }
+        ensures longer { length octets.new ≡ length octets.old + 4 }
+        ensures made { self.new ≡ after_word self.old }
     {
-        let [a, b, c, d] = self.word().to_be_bytes();
-        let [e, f, g, h] = self.word().to_be_bytes();
-        let [i, j, k, l] = self.word().to_be_bytes();
-        let [m, n, o, p] = self.word().to_be_bytes();
-        let [q, r, s, t] = self.word().to_be_bytes();
-        [a, b, c, d, e, f, g, h, i, j, k, l, m, n, o, p, q, r, s, t]
+        octets.append(self.words.next_u32().to_be_bytes().as_slice());
+    }
+
+    // Draws the octets of five words.
+    fn draw(&mut self) -> Octets<20>
+        ensures octets { result ≡ five_words self.old }
+        ensures made { self.new ≡ drawn self.old }
+    {
+        let mut octets = Octets::new();
+        self.add_word(&mut octets);
+        self.add_word(&mut octets);
+        self.add_word(&mut octets);
+        self.add_word(&mut octets);
+        self.add_word(&mut octets);
+        octets
     }
 
     // Adds the end of a script of the link's unit.
@@ -145,52 +159,40 @@ impl Making {
     // Adds the line of a datagram for the link's peer.
     fn packet(&mut self, alloc: Global, link: u8, octets: &[u8]) -> Result<(), NoMemory>
         requires { 1 ≤ link }
-        ensures { OnOk result (self.new ≡ said ((codes "packet " ++ (decimal (link - 1) ++ codes " ")) ++ hex_text octets.now) self.old) }
+        ensures { OnOk result (self.new ≡ said (packet_line link octets.now) self.old) }
     {
         let words = with_number(alloc, b"packet ", u64::from(link - 1), b" ")?;
         let line = with_hex(words, octets)?;
         self.say(line.as_slice())
     }
 
-    // Adds what a link does whose octets are drawn.
-    fn live_drawn(&mut self, alloc: Global, link: u8, for_peer: bool) -> Result<(), NoMemory>
+    // Adds a drawn datagram for the link's peer.
+    fn live_packet(&mut self, alloc: Global, link: u8) -> Result<(), NoMemory>
         requires { 1 ≤ link }
+        ensures { OnOk result (self.new ≡ said (packet_line link (five_words self.old)) (drawn self.old)) }
     {
         let octets = self.draw();
-        if for_peer {
-            self.packet(alloc, link, octets.as_slice())
-        } else {
-            self.hear(alloc, link, protocol::IP, octets.as_slice())
-        }
+        self.packet(alloc, link, octets.as_slice())
     }
 
-    // Adds what a peer sends in a step that it has alone.
-    fn live_heard(&mut self, alloc: Global, link: u8, step: LifeStep) -> Result<(), NoMemory> {
-        match step {
-            LifeStep::AsksLcp => self.hear(alloc, link, protocol::LCP, &[1, 1, 0, 4]),
-            LifeStep::AcksLcp => self.hear(
-                alloc,
-                link,
-                protocol::LCP,
-                &[2, 1, 0, 14, 2, 6, 0, 0, 0, 0, 7, 2, 8, 2],
-            ),
-            LifeStep::AsksIp => self.hear(
-                alloc,
-                link,
-                protocol::IPCP,
-                &[1, 1, 0, 10, 3, 6, 10, 0, link, 2],
-            ),
-            LifeStep::AcksIp => self.hear(
-                alloc,
-                link,
-                protocol::IPCP,
-                &[2, 1, 0, 10, 3, 6, 10, 0, link, 1],
-            ),
-            _ => self.hear(alloc, link, protocol::LCP, &[5, 7, 0, 4]),
-        }
+    // Adds a drawn datagram of the link's peer.
+    fn live_datagram(&mut self, alloc: Global, link: u8) -> Result<(), NoMemory>
+        ensures { OnOk result (self.new ≡ heard link 0x21 (five_words self.old) (drawn self.old)) }
+    {
+        let octets = self.draw();
+        self.hear(alloc, link, protocol::IP, octets.as_slice())
+    }
+
+    // Adds the line of carrying a link.
+    fn carry(&mut self, alloc: Global, link: u8) -> Result<(), NoMemory>
+        ensures { OnOk result (self.new ≡ said (codes "carry " ++ (decimal link ++ [])) self.old) }
+    {
+        let line = with_number(alloc, b"carry ", u64::from(link), b"")?;
+        self.say(line.as_slice())
     }
 
     /// Adds what a link does in this step of this life.
+    #[tactic(auto, unfolding(crate::specs::MadeTrace::lived))]
     pub fn live(
         &mut self,
         alloc: Global,
@@ -200,25 +202,25 @@ impl Making {
     ) -> Result<(), NoMemory>
         requires link { 1 ≤ link }
         requires life { (1 ≤ life) × (life < 2 ^ 31) }
+        ensures { OnOk result (self.new ≡ lived link life step self.old) }
     {
+        let ask = [1, 1, 0, 10, 3, 6, 10, 0, link, 2];
+        let agree = [2, 1, 0, 10, 3, 6, 10, 0, link, 1];
         match step {
             LifeStep::Begin => self.link_says(alloc, link, b" begin"),
             LifeStep::DialOk => self.link_says(alloc, link, b" dial ok"),
             LifeStep::Sent => self.link_says(alloc, link, b" sent ok"),
             LifeStep::LineEnd => self.link_says(alloc, link, b" line end"),
-            LifeStep::Carry => {
-                let line = with_number(alloc, b"carry ", u64::from(link), b"")?;
-                self.say(line.as_slice())
-            }
+            LifeStep::Carry => self.carry(alloc, link),
             LifeStep::FirstEnds => self.script_ends(alloc, link, 2 * life - 1),
             LifeStep::SecondEnds => self.script_ends(alloc, link, 2 * life),
-            LifeStep::Packet => self.live_drawn(alloc, link, true),
-            LifeStep::Datagram => self.live_drawn(alloc, link, false),
-            LifeStep::AsksLcp
-            | LifeStep::AcksLcp
-            | LifeStep::AsksIp
-            | LifeStep::AcksIp
-            | LifeStep::Terminates => self.live_heard(alloc, link, step),
+            LifeStep::Packet => self.live_packet(alloc, link),
+            LifeStep::Datagram => self.live_datagram(alloc, link),
+            LifeStep::AsksLcp => self.hear(alloc, link, protocol::LCP, &[1, 1, 0, 4]),
+            LifeStep::AcksLcp => self.hear(alloc, link, protocol::LCP, &LCP_ACK),
+            LifeStep::AsksIp => self.hear(alloc, link, protocol::IPCP, &ask),
+            LifeStep::AcksIp => self.hear(alloc, link, protocol::IPCP, &agree),
+            LifeStep::Terminates => self.hear(alloc, link, protocol::LCP, &[5, 7, 0, 4]),
         }
     }
 }

@@ -1,4 +1,5 @@
-ghost use Rattle.std.specs.Prelude.{◌≡◌, ◌++◌, IfOk, take};
+ghost use Rattle.std.specs.Prelude.{◌≡◌, ◌++◌, ◌∷◌, [], ◌/◌, ◌%◌, IfOk, OnOk};
+ghost use Rattle.ppp_base.specs.Hex.{lower_digit};
 ghost use Rattle.std.specs.Fmt.{decimal};
 ghost use Rattle.ppp_hdlc.specs.Encoding.{encoding};
 ghost use Rattle.ppp_trace.specs.MadeTrace.{hex_text, plain};
@@ -28,14 +29,22 @@ pub fn with_number(
     Ok(line)
 }
 
+// Adds the two digits of an octet.
+fn add_octet(line: &mut Vec<u8>, octet: u8) -> Result<(), NoMemory>
+    ensures { OnOk result (line.new.items ≡ line.old.items ++ (lower_digit (octet / 16) ∷ lower_digit (octet % 16) ∷ [])) }
+{
+    let digits = [hex_digit(octet / 16), hex_digit(octet % 16)];
+    line.extend_from_slice(digits.as_slice())?;
+    Ok(())
+}
+
 /// Octets as hexadecimal digits behind words.
 pub fn with_hex(words: Vec<u8>, octets: &[u8]) -> Result<Vec<u8>, NoMemory>
     ensures { IfOk result (λ line. line.items ≡ words.items ++ hex_text octets.now) }
 {
     let mut line = words;
     for octet in octets {
-        line.push(hex_digit(*octet / 16))?;
-        line.push(hex_digit(*octet % 16))?;
+        add_octet(&mut line, *octet)?;
     }
     Ok(line)
 }

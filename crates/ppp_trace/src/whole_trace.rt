@@ -1,6 +1,6 @@
-ghost use Rattle.std.specs.Prelude.{◌≡◌, ◌+◌, ◌≤◌, ◌++◌, IfOk, OnOk};
+ghost use Rattle.std.specs.Prelude.{◌≡◌, ◌≤◌, ◌<◌, ◌++◌, IfOk, OnOk, length};
 ghost use Rattle.ppp_trace.specs.IsTrace.{IsFullTrace};
-ghost use Rattle.ppp_trace.specs.MadeTrace.{made_head, made_steps, made_text};
+ghost use Rattle.ppp_trace.specs.MadeTrace.{link_options, made_head, made_steps, made_text, next_step, turn};
 
 use crate::life::{life_of, step_of};
 use crate::made::Making;
@@ -12,28 +12,61 @@ use std::alloc::Global;
 /// How many steps a made trace has at most.
 pub const MOST_MADE_STEPS: u32 = 200_000;
 
+// What is made, and how many steps each link has done.
+#[derive(Drop)]
+struct Turns {
+    made: Making,
+    done: [u32; 16],
+}
+
+// A link's next step.
+fn next_step(alloc: Global, turns: &mut Turns, place: u8) -> Result<(), NoMemory>
+    requires sixteen { length turns.old.done ≡ 16 }
+    requires place { place < 16 }
+    ensures { OnOk result (turns.new ≡ next_step place turns.old) }
+{
+    let done = turns.done[place as usize];
+    turns
+        .made
+        .live(alloc, place + 1, life_of(done), step_of(done))?;
+    turns.done[place as usize] = done.saturating_add(1);
+    Ok(())
+}
+
+// A turn, where a line is left.
+#[tactic(auto, unfolding(crate::specs::MadeTrace::turn))]
+fn turn(alloc: Global, turns: &mut Turns, links: u8) -> Result<(), NoMemory>
+    requires sixteen { length turns.old.done ≡ 16 }
+    requires links { (1 ≤ links) × (links ≤ 16) }
+    ensures { OnOk result (turns.new ≡ turn links turns.old) }
+{
+    if turns.made.left() == 0 {
+        return Ok(());
+    }
+    let word = turns.made.word();
+    next_step(alloc, turns, (word % u32::from(links)) as u8)
+}
+
 // The lines of the steps.
+#[tactic(auto, unfolding(crate::specs::MadeTrace::made_steps))]
 fn made_steps(alloc: Global, seed: u64, links: u8, steps: u32) -> Result<Vec<u8>, NoMemory>
     requires links { (1 ≤ links) × (links ≤ 16) }
-    requires steps { steps ≤ MOST_MADE_STEPS }
+    ensures { IfOk result (λ text. text.items ≡ made_steps seed links steps) }
 {
-    let mut making = Making::new(alloc, seed, steps);
-    let mut done = [0u32; 16];
+    let mut turns = Turns {
+        made: Making::new(alloc, seed, steps),
+        done: [0; 16],
+    };
     for _turn in 0..steps {
-        if making.left() == 0 {
-            break;
-        }
-        let place = (making.word() % u32::from(links)) as usize;
-        let so_far = done[place];
-        making.live(alloc, place as u8 + 1, life_of(so_far), step_of(so_far))?;
-        done[place] = so_far.saturating_add(1);
+        turn(alloc, &mut turns, links)?;
     }
-    Ok(making.into_text())
+    Ok(turns.made.into_text())
 }
 
 // The options of a link.
 fn add_link(alloc: Global, text: &mut Vec<u8>, link: u8) -> Result<(), NoMemory>
     requires { 1 ≤ link }
+    ensures { OnOk result (text.new.items ≡ text.old.items ++ link_options link) }
 {
     let number = u64::from(link);
     let line = with_number(alloc, b"link socket h:1 unit ", number - 1, b" 10.0.")?;
@@ -46,6 +79,7 @@ fn add_link(alloc: Global, text: &mut Vec<u8>, link: u8) -> Result<(), NoMemory>
 // The first line and the sections.
 fn made_head(alloc: Global, seed: u64, links: u8) -> Result<Vec<u8>, NoMemory>
     requires { (1 ≤ links) × (links ≤ 16) }
+    ensures { IfOk result (λ text. text.items ≡ made_head seed links) }
 {
     let head = with_number(alloc, b"full ", seed, b"\noptions ")?;
     let mut text = with_number(
@@ -65,6 +99,7 @@ fn made_head(alloc: Global, seed: u64, links: u8) -> Result<Vec<u8>, NoMemory>
 pub fn made_text(alloc: Global, seed: u64, links: u8, steps: u32) -> Result<Vec<u8>, NoMemory>
     requires links { (1 ≤ links) × (links ≤ 16) }
     requires steps { steps ≤ MOST_MADE_STEPS }
+    ensures { IfOk result (λ text. text.items ≡ made_text seed links steps) }
 {
     let mut text = made_head(alloc, seed, links)?;
     let lines = made_steps(alloc, seed, links, steps)?;
@@ -76,6 +111,7 @@ pub fn made_text(alloc: Global, seed: u64, links: u8, steps: u32) -> Result<Vec<
 pub fn made_trace(alloc: Global, seed: u64, links: u8, steps: u32) -> Result<Trace, NoMemory>
     requires links { (1 ≤ links) × (links ≤ 16) }
     requires steps { steps ≤ MOST_MADE_STEPS }
+    ensures { IfOk result (IsFullTrace (made_text seed links steps)) }
 {
     let text = made_text(alloc, seed, links, steps)?;
     match read_trace(alloc, text.as_slice()) {

@@ -66,7 +66,15 @@ fn a_step_that_is_stale_runs_nothing(rt: HostRuntime) -> Result<(), Fail> {
 #[test]
 fn a_cause_lets_the_line_be_left(rt: HostRuntime) -> Result<(), Fail> {
     let mut world = world(rt.alloc())?;
-    for line in ["1 begin", "1 dial ok", "1 word TERM"] {
+    for line in [
+        "1 begin",
+        "1 dial ok",
+        "1 word TERM",
+        "1 tick 10000",
+        "1 tick 20000",
+        "1 tick 30000",
+        "1 tick 40000",
+    ] {
         assert!(rt; takes(&mut world, line.as_bytes())?, "{line}");
     }
     assert!(rt; takes(&mut world, b"1 tick 60000")?);
