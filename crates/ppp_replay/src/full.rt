@@ -1,3 +1,6 @@
+ghost use Rattle.std.specs.Prelude.{◌≡◌, ◌≤◌, true};
+ghost use Rattle.ppp_mark.specs.Table.{is_kind};
+
 use ppp_base::hex_digit;
 use ppp_mark::lines::first_line;
 use ppp_mark::name::name;
@@ -30,7 +33,9 @@ fn put_owner<O: Sink>(writer: &mut TextWriter, output: &mut O, owner: LogName) {
 }
 
 // Puts the line of a new mark.
-fn put_mark<O: Sink>(writer: &mut TextWriter, output: &mut O, owner: LogName, mark: Mark) {
+fn put_mark<O: Sink>(writer: &mut TextWriter, output: &mut O, owner: LogName, mark: Mark)
+    requires { is_kind mark.kind ≡ true }
+{
     put_owner(writer, output, owner);
     writer.put(output, b" ");
     writer.put_number(output, mark.time);
@@ -104,7 +109,9 @@ fn put_all_given<O: Sink>(writer: &mut TextWriter, output: &mut O, world: &mut W
 }
 
 /// Writes the text of a full trace with these lines of steps and so many links, and answers whether the whole of it was taken.
-pub fn put_full<O: Sink>(output: &mut O, mut world: World, steps: &[u8], links: u8) -> bool {
+pub fn put_full<O: Sink>(output: &mut O, mut world: World, steps: &[u8], links: u8) -> bool
+    requires { links ≤ 16 }
+{
     let mut writer = TextWriter::new();
     let mut number = 0u64;
     let mut rest = steps;

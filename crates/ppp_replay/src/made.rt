@@ -1,3 +1,6 @@
+ghost use Rattle.std.specs.Prelude.{◌≤◌};
+ghost use Rattle.ppp_trace.specs.declared.whole_trace.TheConstants.{MOST_MADE_STEPS};
+
 use ppp_base::NoMemory;
 use ppp_mark::lines::first_line;
 use ppp_outside::{Sink, TextWriter};
@@ -56,7 +59,9 @@ impl Summary {
 }
 
 // Runs the steps of a trace.
-fn run_steps(world: &mut World, steps: &[u8], links: u8) -> Summary {
+fn run_steps(world: &mut World, steps: &[u8], links: u8) -> Summary
+    requires { links ≤ 16 }
+{
     let mut summary = Summary::new();
     let mut rest = steps;
     'steps: while !rest.is_empty() {
@@ -69,15 +74,25 @@ fn run_steps(world: &mut World, steps: &[u8], links: u8) -> Summary {
     summary
 }
 
+/// How many links a trace has.
+pub fn links_of(trace: &Trace) -> u8
+    ensures { result ≤ 16 }
+{
+    trace.config.links.as_slice().len() as u8
+}
+
 // Runs a trace.
 fn run_trace(alloc: Global, trace: Trace) -> Result<Summary, NoMemory> {
-    let links = trace.config.links.as_slice().len() as u8;
+    let links = links_of(&trace);
     let mut world = World::new(alloc, &trace.config, trace.secrets, trace.seed)?;
     Ok(run_steps(&mut world, trace.steps.as_slice(), links))
 }
 
 /// Runs the trace that is made from a number.
-pub fn run_made(alloc: Global, seed: u64, links: u8, steps: u32) -> Result<Summary, NoMemory> {
+pub fn run_made(alloc: Global, seed: u64, links: u8, steps: u32) -> Result<Summary, NoMemory>
+    requires links { (1 ≤ links) × (links ≤ 16) }
+    requires steps { steps ≤ MOST_MADE_STEPS }
+{
     let trace = made_trace(alloc, seed, links, steps)?;
     run_trace(alloc, trace)
 }

@@ -1,13 +1,14 @@
-ghost use Rattle.std.specs.Prelude.{◌≡◌, ◌↔◌, ◌⊎◌, ◌<◌, ◌≤◌, ◌+◌, ◌^◌, List, ℕ, Some, IsTrue, map};
+ghost use Rattle.std.specs.Prelude.{◌≡◌, ◌↔◌, ◌⊎◌, ◌<◌, ◌≤◌, ◌+◌, ◌^◌, List, ℕ, Some, IfSome, IsTrue, map};
 ghost use Rattle.std.specs.Bool.{OnFalse, OnTrue};
 ghost use Rattle.std.specs.String.{string_bytes};
 ghost use Rattle.ppp_outside.specs.Writing.{Breaks, Writes};
 ghost use Rattle.ppp_trace.specs.declared.TheConstants.{MOST_OCTETS};
-ghost use Rattle.ppp_replay.specs.Run.{Answers, BeginsFull, Ends, IsStatusOf, WritesFault, bad_line, task_of};
+ghost use Rattle.ppp_trace.specs.declared.whole_trace.TheConstants.{MOST_MADE_STEPS};
+ghost use Rattle.ppp_replay.specs.Run.{Answers, BareEnds, BeginsFull, Ends, FullEnds, InputEnds, IsMade, IsStatusOf, MakeEnds, WritesFault, bad_line, made_task, task_of};
 ghost use Rattle.ppp_replay.specs.declared.run.Task.TheVariants.{Check, Replay};
 
 use crate::full::put_full;
-use crate::made::{put_summary, run_made};
+use crate::made::{links_of, put_summary, run_made};
 use crate::player::Player;
 use crate::text::put_text;
 use ppp_base::{LeadingZeros, read_number};
@@ -50,7 +51,8 @@ pub enum Ending {
 
 // What the words ask for.
 fn task_of(words: &[String]) -> Option<Task>
-    ensures { result ≡ task_of (map string_bytes words.now) }
+    ensures task { result ≡ task_of (map string_bytes words.now) }
+    ensures made { IfSome result IsMade }
 {
     match words {
         [] => Some(Task::Replay),
@@ -73,7 +75,10 @@ fn task_of(words: &[String]) -> Option<Task>
 }
 
 // What is to be made.
-fn made_task(seed: &[u8], links: &[u8], steps: &[u8]) -> Option<Task> {
+fn made_task(seed: &[u8], links: &[u8], steps: &[u8]) -> Option<Task>
+    ensures task { result ≡ made_task seed.now links.now steps.now }
+    ensures made { IfSome result IsMade }
+{
     let seed = read_number(seed, LeadingZeros::Refused, 0, u64::MAX)?;
     let links = read_number(links, LeadingZeros::Refused, 1, 16)?;
     let steps = read_number(steps, LeadingZeros::Refused, 1, u64::from(MOST_MADE_STEPS))?;
@@ -96,39 +101,35 @@ fn refuse<O: Sink>(output: &mut O, bad: BadTrace) -> Ending
     Ending::Refused
 }
 
-// Reads a trace, and writes its text.
-fn replay<I: Source, O: Sink>(alloc: Global, input: &mut I, output: &mut O) -> Ending
-    ensures bounded { (I.state input.new).taken ≤ (I.state input.old).taken + MOST_OCTETS + 1 }
-    ensures ends { Ends (Some Replay) result (I.state input.old) (I.state input.new) (O.state output.old) (O.state output.new) }
+// Writes the text of a bare trace.
+fn replay_bare<O: Sink>(alloc: Global, octets: &[u8], output: &mut O) -> Ending
+    ensures { BareEnds result octets.now (O.state output.old) (O.state output.new) }
 {
-    let octets = match read_whole(alloc, input, MOST_OCTETS) {
-        Ok(Whole::Octets(octets)) => octets,
-        Ok(Whole::TooLong(_octets)) => {
-            return refuse(
-                output,
-                BadTrace {
-                    line: 0,
-                    kind: FaultKind::Size,
-                },
-            );
-        }
-        Ok(Whole::Failed) => return Ending::SourceFailed,
-        Err(_) => return Ending::NoMemory,
-    };
-    if begins_full(&octets) {
-        return replay_full(alloc, &octets, output);
-    }
-    replay_bare(alloc, &octets, output)
-}
-
-// Writes the text of a full trace.
-fn replay_full<O: Sink>(alloc: Global, octets: &[u8], output: &mut O) -> Ending {
-    let trace = match read_trace(alloc, octets) {
-        Ok(trace) => trace,
+    let steps = match read_bare(alloc, octets) {
+        Ok(steps) => steps,
         Err(TraceFault::Bad(bad)) => return refuse(output, bad),
         Err(TraceFault::NoMemory(_)) => return Ending::NoMemory,
     };
-    let links = trace.config.links.as_slice().len() as u8;
+    let Ok(player) = Player::new(alloc) else {
+        return Ending::NoMemory;
+    };
+    if put_text(output, player, &steps) {
+        Ending::Done
+    } else {
+        Ending::SinkFailed
+    }
+}
+
+// Writes the text of a full trace.
+fn replay_full<O: Sink>(alloc: Global, octets: &[u8], output: &mut O) -> Ending
+    ensures { FullEnds result octets.now (O.state output.old) (O.state output.new) }
+{
+    let trace = match read_trace(alloc, octets) {
+        Ok(trace) => trace,
+        Err(TraceFault::Bad(fault)) => return refuse(output, fault),
+        Err(TraceFault::NoMemory(_)) => return Ending::NoMemory,
+    };
+    let links = links_of(&trace);
     let Ok(world) = World::new(alloc, &trace.config, trace.secrets, trace.seed) else {
         return Ending::NoMemory;
     };
@@ -139,29 +140,46 @@ fn replay_full<O: Sink>(alloc: Global, octets: &[u8], output: &mut O) -> Ending 
     }
 }
 
+// Writes the text of a trace, bare or full.
+fn replay_octets<O: Sink>(alloc: Global, octets: &[u8], output: &mut O) -> Ending
+    ensures { InputEnds result octets.now (O.state output.old) (O.state output.new) }
+{
+    if begins_full(octets) {
+        replay_full(alloc, octets, output)
+    } else {
+        replay_bare(alloc, octets, output)
+    }
+}
+
+// Reads a trace, and writes its text.
+fn replay<I: Source, O: Sink>(alloc: Global, input: &mut I, output: &mut O) -> Ending
+    ensures bounded { (I.state input.new).taken ≤ (I.state input.old).taken + MOST_OCTETS + 1 }
+    ensures ends { Ends (Some Replay) result (I.state input.old) (I.state input.new) (O.state output.old) (O.state output.new) }
+{
+    match read_whole(alloc, input, MOST_OCTETS) {
+        Ok(Whole::Octets(octets)) => replay_octets(alloc, &octets, output),
+        Ok(Whole::TooLong(_octets)) => refuse(
+            output,
+            BadTrace {
+                line: 0,
+                kind: FaultKind::Size,
+            },
+        ),
+        Ok(Whole::Failed) => Ending::SourceFailed,
+        Err(_) => Ending::NoMemory,
+    }
+}
+
 // Makes a trace, runs it, and writes what it came to.
-fn make<O: Sink>(alloc: Global, seed: u64, links: u8, steps: u32, output: &mut O) -> Ending {
+fn make<O: Sink>(alloc: Global, seed: u64, links: u8, steps: u32, output: &mut O) -> Ending
+    requires links { (1 ≤ links) × (links ≤ 16) }
+    requires steps { steps ≤ MOST_MADE_STEPS }
+    ensures { MakeEnds result (O.state output.old) (O.state output.new) }
+{
     let Ok(summary) = run_made(alloc, seed, links, steps) else {
         return Ending::NoMemory;
     };
     if put_summary(output, summary) {
-        Ending::Done
-    } else {
-        Ending::SinkFailed
-    }
-}
-
-// Writes the text of a bare trace.
-fn replay_bare<O: Sink>(alloc: Global, octets: &[u8], output: &mut O) -> Ending {
-    let steps = match read_bare(alloc, octets) {
-        Ok(steps) => steps,
-        Err(TraceFault::Bad(bad)) => return refuse(output, bad),
-        Err(TraceFault::NoMemory(_)) => return Ending::NoMemory,
-    };
-    let Ok(player) = Player::new(alloc) else {
-        return Ending::NoMemory;
-    };
-    if put_text(output, player, &steps) {
         Ending::Done
     } else {
         Ending::SinkFailed

@@ -143,18 +143,22 @@ made_steps seed links steps = (turns links steps (before_all seed steps)).made.t
 -- ---- the whole text
 
 -- the options of link k
-abbrev pub link_options : ℕ → List ℕ
+unfoldable pub link_options : ℕ → List ℕ
 link_options k =
-    codes "link socket h:1 unit " ++ (decimal (k - 1) ++ (codes " 10.0." ++ (decimal k ++ (codes ".1:10.0." ++ (decimal k ++ codes ".2\n")))))
+    ((codes "link socket h:1 unit " ++ (decimal (k - 1) ++ codes " 10.0.")) ++ (decimal k ++ codes ".1:10.0.")) ++ (decimal k ++ codes ".2\n")
 
-abbrev pub all_options : ℕ → List ℕ
-all_options zero = []
-all_options (suc k) = all_options k ++ link_options (suc k)
+-- the options of so many links behind a text
+abbrev pub with_options : List ℕ → ℕ → List ℕ
+with_options text zero = text
+with_options text (suc k) = with_options text k ++ link_options (suc k)
 
-unfoldable pub made_head : ℕ → ℕ → List ℕ
-made_head seed links =
-    codes "full " ++ (decimal seed ++ (codes "\noptions " ++ (decimal (links + 1) ++ (codes "\nloglimit 65536 nomagic persist holdoff 0 maxfail 0\n"
-    ++ (all_options links ++ codes "pap 0\nchap 0\n")))))
+-- the first line, and the options of all links
+unfoldable pub first_lines : ℕ → ℕ → List ℕ
+first_lines seed links =
+    (codes "full " ++ (decimal seed ++ codes "\noptions ")) ++ (decimal (links + 1) ++ codes "\nloglimit 65536 nomagic persist holdoff 0 maxfail 0\n")
+
+abbrev pub made_head : ℕ → ℕ → List ℕ
+made_head seed links = with_options (first_lines seed links) links ++ codes "pap 0\nchap 0\n"
 
 abbrev pub made_text : ℕ → ℕ → ℕ → List ℕ
 made_text seed links steps = made_head seed links ++ made_steps seed links steps

@@ -108,6 +108,7 @@ impl Making {
     }
 
     // Adds the two lines of a frame.
+    #[tactic(auto, using(crate::proofs::MadeLemmas::encoding_long))]
     fn hear(
         &mut self,
         alloc: Global,

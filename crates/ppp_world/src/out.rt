@@ -1,5 +1,7 @@
-ghost use Rattle.std.specs.Prelude.{◌≡◌, None};
+ghost use Rattle.std.specs.Prelude.{◌≡◌, IfSome, None, true};
+ghost use Rattle.ppp_mark.specs.Table.{is_kind};
 
+use ppp_mark::{Log, Mark};
 use ppp_trace::LineOctets;
 
 /// What a step of the world did.
@@ -20,5 +22,16 @@ impl WorldOut {
             taken,
             written: None,
         }
+    }
+}
+
+/// The mark at a place of a log.
+#[tactic(auto, using(crate::proofs::MarkLemmas::kind_at))]
+pub fn mark_at(log: &Log, at: u32) -> Option<Mark>
+    ensures { IfSome result (λ m. is_kind m.kind ≡ true) }
+{
+    match log.marks().get(at as usize) {
+        Some(mark) => Some(*mark),
+        None => None,
     }
 }

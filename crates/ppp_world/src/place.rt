@@ -1,4 +1,7 @@
-use crate::out::WorldOut;
+ghost use Rattle.std.specs.Prelude.{◌≡◌, ◌≤◌, IfSome, true};
+ghost use Rattle.ppp_mark.specs.Table.{is_kind};
+
+use crate::out::{WorldOut, mark_at};
 use ppp_base::{LinkId, NoMemory, SignalWord};
 use ppp_hooks::HookJob;
 use ppp_link::{DialJob, Link, LinkEvent, ReadStep, Reading, Writing};
@@ -184,8 +187,10 @@ impl LinkPlace {
     }
 
     /// Its first mark that wasn't told.
-    pub fn next_mark(&mut self) -> Option<Mark> {
-        let mark = self.link.log().get(self.told)?;
+    pub fn next_mark(&mut self) -> Option<Mark>
+        ensures { IfSome result (λ m. is_kind m.kind ≡ true) }
+    {
+        let mark = mark_at(self.link.log(), self.told)?;
         self.told = self.told.saturating_add(1);
         Some(mark)
     }

@@ -1,3 +1,7 @@
+ghost use Rattle.std.specs.Prelude.{◌≡◌, ◌≤◌, IfSome, true};
+ghost use Rattle.ppp_mark.specs.Table.{is_kind};
+
+use crate::out::mark_at;
 use crate::place::take_numbered;
 use ppp_base::{NoMemory, Unit};
 use ppp_hooks::{HookDone, HookJob};
@@ -47,8 +51,10 @@ impl UnitPlace {
     }
 
     /// Its first mark that wasn't told.
-    pub fn next_mark(&mut self, table: &Table<ReplaySpawner>, unit: Unit) -> Option<Mark> {
-        let mark = table.log(unit).get(self.told)?;
+    pub fn next_mark(&mut self, table: &Table<ReplaySpawner>, unit: Unit) -> Option<Mark>
+        ensures { IfSome result (λ m. is_kind m.kind ≡ true) }
+    {
+        let mark = mark_at(table.log(unit), self.told)?;
         self.told = self.told.saturating_add(1);
         Some(mark)
     }

@@ -1,4 +1,5 @@
-ghost use Rattle.std.specs.Prelude.{◌≡◌, ◌<◌, ◌++◌, IfNone, IfOk, IfSome, OnSome, [], option_map, option_to_list, replicate};
+ghost use Rattle.std.specs.Prelude.{◌≡◌, ◌<◌, ◌++◌, IfNone, IfOk, IfSome, OnSome, [], option_map, option_to_list, replicate, true};
+ghost use Rattle.ppp_mark.specs.Table.{is_kind};
 ghost use Rattle.ppp_table_parts.specs.Deliveries.{piece_of};
 ghost use Rattle.ppp_world.specs.World.{new_spawner};
 
@@ -125,6 +126,7 @@ impl World {
     /// The first of the last step's new marks that weren't taken yet: those of links, then those of units.
     pub fn take_mark(&mut self) -> Option<(LogName, Mark)>
         ensures fewer { OnSome result (self.new.fresh < self.old.fresh) }
+        ensures kind { IfSome result (λ m. is_kind m.1.kind ≡ true) }
         ensures given { self.new.given ≡ self.old.given }
     {
         if self.fresh == 0 {
@@ -136,7 +138,8 @@ impl World {
 
     // The first new mark of the objects whose marks aren't all told.
     fn find_mark(&mut self) -> Option<(LogName, Mark)>
-        ensures { self.new ≡ record self.old { links = self.new.links; units = self.new.units; at = self.new.at } }
+        ensures same { self.new ≡ self.old }
+        ensures kind { IfSome result (λ m. is_kind m.1.kind ≡ true) }
     {
         for _object in 0..32u8 {
             if let Some(mark) = self.next_mark() {
@@ -149,7 +152,8 @@ impl World {
 
     // The first mark that wasn't told of the object whose marks are told.
     fn next_mark(&mut self) -> Option<(LogName, Mark)>
-        ensures { self.new ≡ record self.old { links = self.new.links; units = self.new.units } }
+        ensures same { self.new ≡ self.old }
+        ensures kind { IfSome result (λ m. is_kind m.1.kind ≡ true) }
     {
         let links = self.links.len();
         if self.at < links {
@@ -161,7 +165,8 @@ impl World {
 
     // The first mark of the link that wasn't told.
     fn next_of_link(&mut self) -> Option<(LogName, Mark)>
-        ensures { self.new ≡ record self.old { links = self.new.links } }
+        ensures same { self.new ≡ self.old }
+        ensures kind { IfSome result (λ m. is_kind m.1.kind ≡ true) }
     {
         let number = u8::try_from(self.at).ok()?;
         let link = LinkId::new(number.saturating_add(1))?;
@@ -172,7 +177,8 @@ impl World {
 
     // The first mark of the unit at this place that wasn't told.
     fn next_of_unit(&mut self, at: usize) -> Option<(LogName, Mark)>
-        ensures { self.new ≡ record self.old { units = self.new.units } }
+        ensures same { self.new ≡ self.old }
+        ensures kind { IfSome result (λ m. is_kind m.1.kind ≡ true) }
     {
         let unit = Unit::new(u8::try_from(at).ok()?)?;
         let place = self.units.get_mut(at)?;
