@@ -1,0 +1,7 @@
+mod GoingFacts
+mod EventFacts
+mod ErrandFacts
+mod LookFacts
+mod OctetFacts
+mod NewFacts
+mod JobFacts

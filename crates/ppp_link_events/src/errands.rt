@@ -20,6 +20,7 @@ use ppp_link_steps::jobs::take_job;
 use ppp_outside::Spawner;
 
 /// The dial that waits is given.
+#[tactic(auto, using(crate::proofs::ErrandFacts::dial_gives, crate::proofs::ErrandFacts::dial_goes))]
 pub fn give_dial<S: Spawner>(core: &mut LinkCore<S>)
     requires goes { Goes core.old }
     requires waits { core.old.dial ≡ errand.Waiting }
@@ -31,6 +32,7 @@ pub fn give_dial<S: Spawner>(core: &mut LinkCore<S>)
 }
 
 /// The reading is given.
+#[tactic(auto, using(crate::proofs::ErrandFacts::reading_gives, crate::proofs::ErrandFacts::reading_goes))]
 pub fn give_reading<S: Spawner>(core: &mut LinkCore<S>)
     requires goes { Goes core.old }
     requires gives { (s : LinkState) → StandsFor core.old s → gives_reading s ≡ true }
@@ -42,6 +44,7 @@ pub fn give_reading<S: Spawner>(core: &mut LinkCore<S>)
 }
 
 /// A writing is given, with the first octets that wait.
+#[tactic(auto, using(crate::proofs::ErrandFacts::writing_octets, crate::proofs::ErrandFacts::writing_gives, crate::proofs::ErrandFacts::writing_goes))]
 pub fn give_writing<S: Spawner>(core: &mut LinkCore<S>) -> Octets<1024>
     requires goes { Goes core.old }
     requires gives { (s : LinkState) → StandsFor core.old s → gives_writing s ≡ true }
@@ -55,6 +58,7 @@ pub fn give_writing<S: Spawner>(core: &mut LinkCore<S>) -> Octets<1024>
 }
 
 /// The script that was started is given, if its job isn't out. The spawner goes with it.
+#[tactic(auto, using(crate::proofs::ErrandFacts::job_gives, crate::proofs::ErrandFacts::job_goes))]
 pub fn give_job<S: Spawner>(core: &mut LinkCore<S>) -> Option<HookJob<S>>
     requires goes { Goes core.old }
     ensures some { (s : LinkState) → StandsFor core.old s → gives_job s ≡ is_some result }
@@ -69,6 +73,7 @@ pub fn give_job<S: Spawner>(core: &mut LinkCore<S>) -> Option<HookJob<S>>
 }
 
 /// The post to the table that waits longest is taken.
+#[tactic(auto, using(crate::proofs::ErrandFacts::post_first, crate::proofs::ErrandFacts::post_gives_some, crate::proofs::ErrandFacts::post_none, crate::proofs::ErrandFacts::post_goes))]
 pub fn give_post<S: Spawner>(core: &mut LinkCore<S>) -> Option<UpPost>
     requires goes { Goes core.old }
     ensures first { (s : LinkState) → StandsFor core.old s → first_of s.up.waiting ≡ option_map (λ (post : UpPost). value_of post) result }

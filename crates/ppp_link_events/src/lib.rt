@@ -5,7 +5,6 @@
 
 pub mod errands;
 pub mod events;
-mod late;
 pub mod looking;
 pub mod new;
 pub mod octets;

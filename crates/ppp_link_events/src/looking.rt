@@ -1,16 +1,16 @@
 //! What is so of a link now: which errand is out, what is given, what it shows of itself.
 
-ghost use Rattle.std.specs.Prelude.{◌≡◌, ◌==◌, ◌&&◌, ℕ, true};
+ghost use Rattle.std.specs.Prelude.{◌≡◌, ◌==◌, ◌&&◌, true};
 ghost use Rattle.ppp_link_rules.specs.Errands.{gives_dial, gives_reading, gives_writing, is_dial_out, is_next, is_reading_out, is_session, is_writing_out};
 ghost use Rattle.ppp_link_rules.specs.LinkEvent.{FromTable};
 ghost use Rattle.ppp_link_rules.specs.LinkPart.{is_present, may_come_back};
 ghost use Rattle.ppp_link_rules.specs.LinkState.{LinkState, control, is_out, is_waiting};
-ghost use Rattle.ppp_link_rules.specs.Marks.{status_by};
-ghost use Rattle.ppp_link_rules.specs.Posts.{is_stay, stay_of};
+ghost use Rattle.ppp_link_rules.specs.Marks.{is_new, status_by};
+ghost use Rattle.ppp_link_rules.specs.Posts.{is_stay, names_present, stay_of};
 ghost use Rattle.ppp_link_rules.specs.View.{view_of};
 ghost use Rattle.ppp_link_rules.specs.declared.errand.Errand.TheVariants as errand;
 ghost use Rattle.ppp_link_core.specs.Standing.{StandsFor};
-ghost use Rattle.ppp_link_parts.specs.Records.{told};
+ghost use Rattle.ppp_link_events.specs.Looking.{may_come_by};
 
 use ppp_base::{LinkId, Post};
 use ppp_link_core::link_core::LinkCore;
@@ -42,52 +42,85 @@ fn is_waiting(errand: Errand) -> bool
 }
 
 // Whether this is the link's present session.
+#[tactic(auto, using(crate::proofs::LookFacts::session_is))]
 fn is_session<S: Spawner>(core: &LinkCore<S>, link: LinkId, session: u32) -> bool
     ensures stands { (s : LinkState) → StandsFor core.now s → is_session link session s ≡ result }
 {
-    link == core.id && session == core.records.session()
+    let now = core.records.session();
+    link == core.id && session == now
+}
+
+// Whether a dial is the one that is out, by what is so.
+fn is_this_dial(dial: Errand, present: bool, failed: u32, failures: u32) -> bool
+    ensures { result ≡ (is_out dial && (present && failed == failures)) }
+{
+    is_out(dial) && (present && failed == failures)
+}
+
+// Whether an errand of the present session is out.
+fn is_this(errand: Errand, present: bool) -> bool
+    ensures { result ≡ (is_out errand && present) }
+{
+    is_out(errand) && present
 }
 
 /// Whether this dial is the one that is out.
+#[tactic(auto, using(crate::proofs::LookFacts::dial_is))]
 pub fn is_dial_out<S: Spawner>(core: &LinkCore<S>, link: LinkId, session: u32, failed: u32) -> bool
     ensures stands { (s : LinkState) → StandsFor core.now s → is_dial_out link session failed s ≡ result }
     ensures out { result ≡ true → core.now.dial ≡ errand.Out }
 {
-    is_out(core.dial) && (is_session(core, link, session) && failed == core.failed_dials)
+    let present = is_session(core, link, session);
+    is_this_dial(core.dial, present, failed, core.failed_dials)
 }
 
 /// Whether this reading is the one that is out.
+#[tactic(auto, using(crate::proofs::LookFacts::reading_is))]
 pub fn is_reading_out<S: Spawner>(core: &LinkCore<S>, link: LinkId, session: u32) -> bool
     ensures stands { (s : LinkState) → StandsFor core.now s → is_reading_out link session s ≡ result }
     ensures out { result ≡ true → core.now.reading ≡ errand.Out }
 {
-    is_out(core.reading) && is_session(core, link, session)
+    let present = is_session(core, link, session);
+    is_this(core.reading, present)
 }
 
 /// Whether this writing is the one that is out.
+#[tactic(auto, using(crate::proofs::LookFacts::writing_is))]
 pub fn is_writing_out<S: Spawner>(core: &LinkCore<S>, link: LinkId, session: u32) -> bool
     ensures stands { (s : LinkState) → StandsFor core.now s → is_writing_out link session s ≡ result }
     ensures out { result ≡ true → core.now.writing ≡ errand.Out }
 {
-    is_out(core.writing) && is_session(core, link, session)
+    let present = is_session(core, link, session);
+    is_this(core.writing, present)
 }
 
 /// Whether octets from this place on come next.
+#[tactic(auto, using(crate::proofs::LookFacts::next_is))]
 pub fn is_next<S: Spawner>(core: &LinkCore<S>, link: LinkId, session: u32, offset: u64) -> bool
     ensures stands { (s : LinkState) → StandsFor core.now s → is_next link session offset s ≡ result }
 {
-    is_session(core, link, session) && offset == core.taken
+    let present = is_session(core, link, session);
+    present && offset == core.taken
 }
 
-/// Whether a reading may come back so.
-pub fn may_come_back<S: Spawner>(core: &LinkCore<S>, how: ReadEnd) -> bool
-    ensures stands { (s : LinkState) → StandsFor core.now s → may_come_back how s ≡ result }
+// Whether a reading may come back so, by whether the line is wanted.
+fn may_come_by(how: ReadEnd, wanted: bool) -> bool
+    ensures { result ≡ may_come_by how wanted }
 {
     match how {
         ReadEnd::End => true,
         ReadEnd::Failed => true,
-        ReadEnd::Left => !wants_line(core),
+        ReadEnd::Left => !wanted,
     }
+}
+
+/// Whether a reading may come back so.
+#[tactic(auto, using(crate::proofs::LookFacts::come_is))]
+pub fn may_come_back<S: Spawner>(core: &LinkCore<S>, how: ReadEnd) -> bool
+    ensures stands { (s : LinkState) → StandsFor core.now s → may_come_back how s ≡ result }
+{
+    let wanted = wants_line(core);
+    may_come_by(how, wanted)
 }
 
 // Whether this stay is the present one.
@@ -115,6 +148,7 @@ fn names_present(post: &Post, present: Option<u32>) -> bool
 }
 
 /// Whether a post of the table is for the link as it is now.
+#[tactic(auto, using(crate::proofs::LookFacts::post_is))]
 pub fn is_post_present<S: Spawner>(core: &LinkCore<S>, post: &Post) -> bool
     ensures stands { (s : LinkState) → StandsFor core.now s → is_present (FromTable post.now) s ≡ result }
 {
@@ -122,7 +156,16 @@ pub fn is_post_present<S: Spawner>(core: &LinkCore<S>, post: &Post) -> bool
     names_present(post, stay)
 }
 
+/// Whether the link hasn't begun.
+#[tactic(auto, using(crate::proofs::LookFacts::new_is))]
+pub fn is_new<S: Spawner>(core: &LinkCore<S>) -> bool
+    ensures stands { (s : LinkState) → StandsFor core.now s → is_new (control s).doing ≡ result }
+{
+    core.records.is_new()
+}
+
 /// Whether a dial is given.
+#[tactic(auto, using(crate::proofs::LookFacts::gives_dial_is, crate::proofs::LookFacts::waiting_by))]
 pub fn gives_dial<S: Spawner>(core: &LinkCore<S>) -> bool
     ensures stands { (s : LinkState) → StandsFor core.now s → gives_dial s ≡ result }
     ensures waits { result ≡ true → core.now.dial ≡ errand.Waiting }
@@ -130,35 +173,53 @@ pub fn gives_dial<S: Spawner>(core: &LinkCore<S>) -> bool
     is_waiting(core.dial)
 }
 
+// Whether an errand is in, and something asks for it.
+fn is_given(errand: Errand, asked: bool) -> bool
+    ensures { result ≡ (is_waiting errand && asked) }
+{
+    is_waiting(errand) && asked
+}
+
 /// Whether a reading is given.
+#[tactic(auto, using(crate::proofs::LookFacts::gives_reading_is))]
 pub fn gives_reading<S: Spawner>(core: &LinkCore<S>) -> bool
     ensures stands { (s : LinkState) → StandsFor core.now s → gives_reading s ≡ result }
 {
-    is_waiting(core.reading) && wants_line(core)
+    let wanted = wants_line(core);
+    is_given(core.reading, wanted)
 }
 
 /// Whether a writing is given.
+#[tactic(auto, using(crate::proofs::LookFacts::gives_writing_is))]
 pub fn gives_writing<S: Spawner>(core: &LinkCore<S>) -> bool
     ensures stands { (s : LinkState) → StandsFor core.now s → gives_writing s ≡ result }
 {
-    is_waiting(core.writing) && !core.out.is_empty()
+    let empty = core.out.is_empty();
+    is_given(core.writing, !empty)
 }
 
 /// What the link shows of itself.
+#[tactic(auto, using(crate::proofs::LookFacts::view_is))]
 pub fn view<S: Spawner>(core: &LinkCore<S>) -> LinkView
     ensures stands { (s : LinkState) → StandsFor core.now s → view_of s ≡ result }
 {
+    let session = core.records.session();
+    let lcp_state = core.state();
+    let stay = core.records.stay();
+    let member = core.records.unit();
+    let live = core.records.is_live();
     LinkView {
-        session: core.records.session(),
+        session,
         taken: core.taken,
-        lcp_state: core.state(),
-        stay: core.records.stay(),
-        member: core.records.unit(),
-        live: core.records.is_live(),
+        lcp_state,
+        stay,
+        member,
+        live,
     }
 }
 
 /// The status with which the link has finished.
+#[tactic(auto, using(crate::proofs::LookFacts::status_is))]
 pub fn status<S: Spawner>(core: &LinkCore<S>) -> Option<u8>
     ensures stands { (s : LinkState) → StandsFor core.now s → status_by (control s).doing ≡ result }
 {

@@ -16,6 +16,7 @@ use ppp_secrets::SecretsPair;
 use std::alloc::Global;
 
 /// A link that hasn't begun, whose log has room for so many marks.
+#[tactic(auto, using(crate::proofs::NewFacts::new_going, crate::proofs::NewFacts::new_goes))]
 pub fn make<S: Spawner>(
     alloc: Global,
     id: LinkId,

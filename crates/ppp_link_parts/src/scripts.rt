@@ -64,6 +64,7 @@ impl<S: Spawner> Records<S> {
     /// A script has ended. An `Err` gives back what isn't the job that was taken and runs, and changes nothing.
     pub fn end_job(&mut self, done: HookDone<S>, time: u64) -> Result<(), HookDone<S>>
         requires room { 2 ≤ room_of self.old.scripts.log }
+        ensures target { self.old.scripts.machine.target ≡ Link self.old.id }
         ensures ok { IsOk result ↔ IsRunningJob done self.old.scripts }
         ensures new { OnOk result (self.new ≡ record self.old {
           scripts = record self.old.scripts {

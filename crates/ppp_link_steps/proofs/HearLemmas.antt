@@ -1,6 +1,6 @@
 -- A link that hears stays calm, and so does one whose line ends: no packet is an Open.
-use Rattle.std.proofs.Common.{◌≡◌, ℕ, Bool, true, false, Option, None, Some, List, [], ◌∷◌, refl, ap, sym, ◌∙◌}
-use Rattle.std.specs.Prelude.{◌+◌, ◌==◌, ◌&&◌, if◌then◌else◌, is_some, nat_eq, nat_le, nat_lt, length, slice_index}
+use Rattle.std.proofs.Common.{◌≡◌, ℕ, Bool, true, false, Option, None, Some, List, [], ◌∷◌, refl, ap}
+use Rattle.std.specs.Prelude.{◌==◌, ◌&&◌, if◌then◌else◌, nat_eq, nat_le, nat_lt, length, slice_index}
 use Rattle.ppp_chat.specs.Event.{octet_at}
 use Rattle.std.specs.Cmp.Lexicographic.{pointwise}
 use Rattle.ppp_base.specs.declared.code.TheConstants.{CODE_REJECT, CONFIGURE_ACK, CONFIGURE_NAK, CONFIGURE_REJECT, CONFIGURE_REQUEST, DISCARD_REQUEST, ECHO_REQUEST, PROTOCOL_REJECT, TERMINATE_ACK, TERMINATE_REQUEST}
@@ -23,7 +23,7 @@ use Rattle.ppp_link_rules.specs.Ending.{caused, closed_if, first_caused_by}
 use Rattle.ppp_link_rules.specs.Hearing.{frame_taken, heard_taken, octet_taken, octet_to, octets_taken, treated, with_fed}
 use Rattle.ppp_link_rules.specs.LcpCalls.{lcp_called, lcp_heard}
 use Rattle.ppp_link_rules.specs.LinkPart.{bytes_taken}
-use Rattle.ppp_link_rules.specs.LinkState.{Chatting, Framing, LinkState, Listener, Nobody, agreed, control, has_passed, is_busy, is_lasting, is_open, outcome_of}
+use Rattle.ppp_link_rules.specs.LinkState.{Chatting, Framing, LinkState, Listener, Nobody, agreed, has_passed, is_busy, is_open, outcome_of}
 use Rattle.ppp_link_rules.specs.Phase.{Discarded, Phase, ToAuth, ToLcp, ToReject, ToTable, Treatment, phase_by}
 use Rattle.ppp_link_rules.specs.Sessions.{line_gone, line_gone_if, line_lost, with_line_ended}
 use Rattle.ppp_link_rules.specs.declared.cause.Cause.{Cause}

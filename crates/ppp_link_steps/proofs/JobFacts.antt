@@ -1,5 +1,5 @@
 -- Jobs: what the machine stands for behind each piece.
-use Rattle.std.proofs.Common.{◌≡◌, ℕ, Bool, true, false, Option, None, Some, List, ◌∷◌, ◌++◌, refl, ap, sym, subst, ◌∙◌}
+use Rattle.std.proofs.Common.{◌≡◌, ℕ, Bool, Option, None, Some, ◌∷◌, refl, ap, sym, subst, ◌∙◌}
 use Rattle.std.specs.Prelude.{◌+◌, ◌&&◌, Err, IfNone, Ok, OnErr, OnOk, OnSome, Result, is_none, is_some, not}
 use Rattle.ppp_hooks.specs.HookFacts.{settled, with_end}
 use Rattle.ppp_hooks.specs.HookPast.{ends_in, open_in}
@@ -10,15 +10,14 @@ use Rattle.ppp_mark.specs.ScriptLog.{log_ended}
 use Rattle.ppp_mark.specs.Scripts.{said_in}
 use Rattle.ppp_outside.specs.declared.line_words.LineWords.{LineWords}
 use Rattle.ppp_outside.specs.declared.spawner.ScriptEnd.{ScriptEnd}
-use Rattle.ppp_outside.specs.declared.spawner.ScriptEnd.TheVariants.{Exit, Killed, NotStarted}
 use Rattle.ppp_link_parts.specs.Records.{DialStands, RecordsNow, told}
-use Rattle.ppp_link_rules.specs.Errands.{gives_job, is_running, with_job_out}
+use Rattle.ppp_link_rules.specs.Errands.{gives_job, with_job_out}
 use Rattle.ppp_link_rules.specs.LinkPart.{job_ended}
-use Rattle.ppp_link_rules.specs.LinkState.{LinkState, control}
+use Rattle.ppp_link_rules.specs.LinkState.{LinkState}
 use Rattle.ppp_link_rules.specs.Marks.{stay_in}
 use Rattle.ppp_link_core.proofs.EndFacts.{starts_open, starts_stay}
 use Rattle.ppp_link_core.proofs.StandFacts.{at_state, lives_after}
-use Rattle.ppp_link_core.specs.Standing.{Does, Lives, Sits, StandsFor, histories_of, opened, state_of}
+use Rattle.ppp_link_core.specs.Standing.{Does, Lives, Sits, StandsFor, histories_of, state_of}
 use Rattle.ppp_link_core.specs.declared.link_core.LinkCore.{LinkCore}
 use Rattle.ppp_link_steps.proofs.CalmLemmas.{calm_keeps, due_attempt, due_cause, due_doing, keeps_same}
 use Rattle.ppp_link_steps.proofs.DialFacts.{calm_does}

@@ -1,5 +1,5 @@
 -- A link that hasn't begun is calm.
-use Rattle.std.proofs.Common.{◌≡◌, ℕ, refl, arith}
+use Rattle.std.proofs.Common.{ℕ, refl, arith}
 use Rattle.ppp_lcp.specs.declared.wish.LcpWish.{LcpWish}
 use Rattle.ppp_option_words.specs.LinkValues.{LinkValues}
 use Rattle.ppp_secrets.specs.declared.secrets.SecretsPair.{SecretsPair}

@@ -1,22 +1,20 @@
 -- A session's end: what the machine stands for behind each piece.
-use Rattle.std.proofs.Common.{◌≡◌, ◌≤◌, ℕ, Bool, true, false, Option, None, Some, List, ◌∷◌, refl, ap, sym, subst, ◌∙◌}
+use Rattle.std.proofs.Common.{◌≡◌, ℕ, Bool, true, false, Option, None, Some, ◌∷◌, refl, ap, sym, subst, ◌∙◌}
 use Rattle.std.specs.Prelude.{◌&&◌, ◌||◌, is_none, is_some, not}
 use Rattle.ppp_chat.specs.Script.{ChatScript}
 use Rattle.ppp_dial.specs.Answer.{answer_to}
 use Rattle.ppp_dial.specs.Happened.{asked}
-use Rattle.ppp_dial.specs.LookingBack.{is_nothing, nothing_yet, so_far}
+use Rattle.ppp_dial.specs.LookingBack.{nothing_yet, so_far}
 use Rattle.ppp_dial.specs.declared.call.CallKind.TheVariants.{SessionOver}
 use Rattle.ppp_dial.specs.declared.now.DialNow.{DialNow}
 use Rattle.ppp_hooks.specs.HookPast.{open_in}
 use Rattle.ppp_mark.specs.Log.{added, room_of}
 use Rattle.ppp_mark.specs.Marks.{over_mark}
-use Rattle.ppp_mark.specs.Scripts.{said_in}
-use Rattle.ppp_outside.specs.declared.line_words.LineWords.{LineWords}
 use Rattle.ppp_link_parts.specs.Records.{DialStands, RecordsNow, answer_marked, log_answered, marked_with, says, told}
 use Rattle.ppp_link_parts.specs.Talk.{Listens, TalkNow}
 use Rattle.ppp_link_rules.specs.Dialling.{dial_says, dialled_in, end_by}
 use Rattle.ppp_link_rules.specs.Hearing.{looked_after}
-use Rattle.ppp_link_rules.specs.LinkState.{LinkState, Listener, Nobody, control, is_absent, is_busy, is_lasting, is_leaving, is_out, lcp_state, wants_line}
+use Rattle.ppp_link_rules.specs.LinkState.{LinkState, Listener, Nobody, control, is_absent, is_lasting, is_leaving, is_out, lcp_state, wants_line}
 use Rattle.ppp_link_rules.specs.Marks.{is_session}
 use Rattle.ppp_link_rules.specs.Sessions.{at_end, dial_answered, is_over, over_if, over_marked, session_over}
 use Rattle.ppp_link_rules.specs.declared.cause.Cause.{Cause}
@@ -27,8 +25,8 @@ use Rattle.ppp_link_core.specs.Standing.{Does, Lives, Sits, StandsFor, histories
 use Rattle.ppp_link_core.specs.declared.link_core.LinkCore.{LinkCore}
 use Rattle.ppp_link_steps.proofs.CalmLemmas.{calm_keeps, looked_keeps}
 use Rattle.ppp_link_steps.proofs.DialFacts.{answered_calm, answered_is, calm_does, marked_said, marked_stay, still_sits}
-use Rattle.ppp_link_steps.specs.Calm.{Calm, IsCalm, IsStill, may_talk}
-use Rattle.ppp_link_steps.specs.Dialled.{dial_followed, dial_marked, ended_now, over_told}
+use Rattle.ppp_link_steps.specs.Calm.{Calm, IsCalm, IsStill}
+use Rattle.ppp_link_steps.specs.Dialled.{dial_followed, ended_now, over_told}
 
 -- READERS
 

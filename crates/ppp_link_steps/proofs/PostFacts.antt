@@ -10,9 +10,9 @@ use Rattle.ppp_link_parts.specs.Records.{told}
 use Rattle.ppp_link_rules.specs.CauseStatus.{closed_by, join_refused}
 use Rattle.ppp_link_rules.specs.LcpCalls.{protocol_rejected}
 use Rattle.ppp_link_rules.specs.LinkState.{LinkState, control}
-use Rattle.ppp_link_rules.specs.Posts.{live_if, live_marked, made_member, member_if, member_marked, post_taken, rejected_in, sent_in}
+use Rattle.ppp_link_rules.specs.Posts.{live_if, made_member, member_if, member_marked, post_taken, rejected_in, sent_in}
 use Rattle.ppp_link_rules.specs.Sending.{frame_sent}
-use Rattle.ppp_link_core.specs.Standing.{Does, Lives, Sits, StandsFor, opened}
+use Rattle.ppp_link_core.specs.Standing.{Does, Sits, StandsFor, opened}
 use Rattle.ppp_link_core.specs.Told.{closed_stay, refusal_marked, refused_stay}
 use Rattle.ppp_link_core.specs.declared.link_core.LinkCore.{LinkCore}
 use Rattle.ppp_link_steps.proofs.CalmLemmas.{Keeps, Same, calm_keeps, ended_keeps, frame_is, keeps, keeps_same, rejected_keeps, same, same_then, keeps_then}

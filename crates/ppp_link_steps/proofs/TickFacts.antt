@@ -194,5 +194,5 @@ pub all_ticked : {S : Type 0} {a b c : LinkCore S} (now : ℕ) → Does (timers_
 unfolding ticked
 all_ticked now x y = record { stands = λ s k. y.stands (timers_ticked now s) (x.stands s k) }
 
-pub all_calm : {S : Type 0} {a b : LinkCore S} → Does chat_ticked a b → Calm a → Calm b
-all_calm d calm = calm_does (λ s c. ticked_calm s c) d calm
+pub chat_calm : {S : Type 0} {a b : LinkCore S} → Does chat_ticked a b → Calm a → Calm b
+chat_calm d calm = calm_does (λ s c. ticked_calm s c) d calm

@@ -43,6 +43,7 @@ pub fn end_job<S: Spawner>(core: &mut LinkCore<S>, done: HookDone<S>) -> Result<
     requires room { 2 ≤ room_of core.old.records.scripts.log }
     requires sits { Sits (opened core.old.lcp) core.old }
     requires calm { Calm core.old }
+    ensures target { core.old.records.scripts.machine.target ≡ Link core.old.records.id }
     ensures ok { IsOk result ↔ IsRunningJob done core.old.records.scripts }
     ensures does { OnOk result (Does (job_ended done.answer) core.old core.new) }
     ensures unchanged { OnErr result (core.new ≡ core.old) }

@@ -4,6 +4,7 @@ ghost use Rattle.std.specs.Prelude.{◌≡◌, ◌≤◌, ◌&&◌, max, min, tr
 ghost use Rattle.ppp_mark.specs.Log.{room_of};
 ghost use Rattle.ppp_mark.specs.ScriptLog.{Grows};
 ghost use Rattle.ppp_timer.specs.declared.slot.Slot.TheVariants.{LcpRestart, AuthRestart, Hold};
+ghost use Rattle.ppp_link_rules.specs.Hearing.{chat_ticked};
 ghost use Rattle.ppp_link_rules.specs.LinkState.{LinkState};
 ghost use Rattle.ppp_link_rules.specs.Ticking.{lcp_moment, ticked, timers_treated, treated_if, with_time};
 ghost use Rattle.ppp_link_rules.specs.declared.limits.TheConstants.{MOST_TIME};
@@ -204,6 +205,21 @@ pub fn tick_timers<S: Spawner>(core: &mut LinkCore<S>, now: u64)
     treat_slots(core);
 }
 
+// The chat looks at the time, if it hears.
+fn treat_chat<S: Spawner>(core: &mut LinkCore<S>)
+    requires lives { Lives core.old }
+    requires room { 26 ≤ room_of core.old.records.scripts.log }
+    requires sits { Sits (opened core.old.lcp) core.old }
+    requires calm { Calm core.old }
+    ensures does { Does chat_ticked core.old core.new }
+    ensures sits { Sits (opened core.new.lcp) core.new }
+    ensures calm { Calm core.new }
+    ensures grows { Grows 26 core.old.records.scripts.log core.new.records.scripts.log }
+    ensures lives { Lives core.new }
+{
+    tick_chat(core);
+}
+
 /// A tick: the time is set, the slots that are due are treated, and then a chat that hears looks at the time.
 #[tactic(auto, using(crate::proofs::TickFacts::all_ticked))]
 pub fn tick<S: Spawner>(core: &mut LinkCore<S>, now: u64)
@@ -218,5 +234,5 @@ pub fn tick<S: Spawner>(core: &mut LinkCore<S>, now: u64)
     ensures lives { Lives core.new }
 {
     tick_timers(core, now);
-    tick_chat(core);
+    treat_chat(core);
 }
