@@ -1,4 +1,7 @@
 ghost use Rattle.std.specs.Prelude.{◌≡◌, ◌≤◌, IfSome, true};
+ghost use Rattle.std.specs.Bool.{OnFalse, OnTrue};
+ghost use Rattle.ppp_link.specs.Steps.{Steps};
+ghost use Rattle.ppp_link.specs.declared.event.LinkEvent.TheVariants as event;
 ghost use Rattle.ppp_mark.specs.Table.{is_kind};
 
 use crate::out::{WorldOut, mark_at};
@@ -69,22 +72,33 @@ impl LinkPlace {
     }
 
     /// An event with which no errand comes back.
-    pub fn begins(&mut self) -> bool {
+    pub fn begins(&mut self) -> bool
+        ensures steps { OnTrue result (Steps event.Begin self.old.link self.new.link) }
+        ensures stale { OnFalse result (self.new.link ≡ self.old.link) }
+    {
         self.link.step(LinkEvent::Begin).is_taken()
     }
 
     /// A moment.
-    pub fn ticks(&mut self, ms: u64) -> bool {
+    pub fn ticks(&mut self, ms: u64) -> bool
+        ensures steps { OnTrue result (Steps (event.Tick ms) self.old.link self.new.link) }
+        ensures stale { OnFalse result (self.new.link ≡ self.old.link) }
+    {
         self.link.step(LinkEvent::Tick(ms)).is_taken()
     }
 
     /// A signal.
-    pub fn hears_signal(&mut self, word: SignalWord) -> bool {
+    pub fn hears_signal(&mut self, word: SignalWord) -> bool
+        ensures steps { OnTrue result (Steps (event.Signal word) self.old.link self.new.link) }
+        ensures stale { OnFalse result (self.new.link ≡ self.old.link) }
+    {
         self.link.step(LinkEvent::Signal(word)).is_taken()
     }
 
     /// The dial that is out answers so.
-    pub fn dial_ends(&mut self, answer: DialNext) -> bool {
+    pub fn dial_ends(&mut self, answer: DialNext) -> bool
+        ensures stale { OnFalse result (self.new.link ≡ self.old.link) }
+    {
         let Some(mut job) = self.dial.take() else {
             return false;
         };
@@ -93,7 +107,9 @@ impl LinkPlace {
     }
 
     // The turn of a reading.
-    fn read(&mut self, step: ReadStep<ReplayLine>) -> bool {
+    fn read(&mut self, step: ReadStep<ReplayLine>) -> bool
+        ensures stale { OnFalse result (self.new.link ≡ self.old.link) }
+    {
         match step {
             ReadStep::Piece(reading, piece) => {
                 self.reading = Some(reading);
@@ -108,7 +124,9 @@ impl LinkPlace {
     }
 
     // The reading that is out answers so.
-    fn reads(&mut self, answer: &LineAnswer) -> bool {
+    fn reads(&mut self, answer: &LineAnswer) -> bool
+        ensures stale { OnFalse result (self.new.link ≡ self.old.link) }
+    {
         let Some(mut reading) = self.reading.take() else {
             return false;
         };
@@ -117,7 +135,9 @@ impl LinkPlace {
     }
 
     /// The line gives these octets, of which there must be some.
-    pub fn hears(&mut self, octets: &LineOctets) -> bool {
+    pub fn hears(&mut self, octets: &LineOctets) -> bool
+        ensures stale { OnFalse result (self.new.link ≡ self.old.link) }
+    {
         if octets.is_empty() {
             return false;
         }
@@ -125,7 +145,9 @@ impl LinkPlace {
     }
 
     /// The line gives these octets, where this is the present session and so many octets were taken in it.
-    pub fn hears_at(&mut self, session: u32, offset: u64, octets: &LineOctets) -> bool {
+    pub fn hears_at(&mut self, session: u32, offset: u64, octets: &LineOctets) -> bool
+        ensures stale { OnFalse result (self.new.link ≡ self.old.link) }
+    {
         let view = self.link.view();
         if view.session != session || view.taken != offset {
             return false;
@@ -134,17 +156,23 @@ impl LinkPlace {
     }
 
     /// The line has ended.
-    pub fn line_ends(&mut self) -> bool {
+    pub fn line_ends(&mut self) -> bool
+        ensures stale { OnFalse result (self.new.link ≡ self.old.link) }
+    {
         self.reads(&LineAnswer::End)
     }
 
     /// The line has failed.
-    pub fn line_fails(&mut self) -> bool {
+    pub fn line_fails(&mut self) -> bool
+        ensures stale { OnFalse result (self.new.link ≡ self.old.link) }
+    {
         self.reads(&LineAnswer::Failed)
     }
 
     /// The line is left, unless the link wants it.
-    pub fn line_left(&mut self) -> bool {
+    pub fn line_left(&mut self) -> bool
+        ensures stale { OnFalse result (self.new.link ≡ self.old.link) }
+    {
         if self.link.wants_line() {
             return false;
         }
@@ -168,7 +196,9 @@ impl LinkPlace {
     }
 
     /// The script of this job, where it runs, ends so.
-    pub fn hook_ends(&mut self, number: u32, answer: ScriptEnd) -> bool {
+    pub fn hook_ends(&mut self, number: u32, answer: ScriptEnd) -> bool
+        ensures stale { OnFalse result (self.new.link ≡ self.old.link) }
+    {
         let Some(mut job) = take_numbered(&mut self.job, number) else {
             return false;
         };
