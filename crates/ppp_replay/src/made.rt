@@ -3,6 +3,7 @@ ghost use Rattle.ppp_trace.specs.declared.whole_trace.TheConstants.{MOST_MADE_ST
 
 use ppp_base::NoMemory;
 use ppp_mark::lines::first_line;
+use ppp_option_words::Config;
 use ppp_outside::{Sink, TextWriter};
 use ppp_trace::{Trace, WorldStep, made_trace, read_step};
 use ppp_world::World;
@@ -74,18 +75,24 @@ fn run_steps(world: &mut World, steps: &[u8], links: u8) -> Summary
     summary
 }
 
-/// How many links a trace has.
-pub fn links_of(trace: &Trace) -> u8
+/// How many links there are.
+pub fn links_of(config: &Config) -> u8
     ensures { result ≤ 16 }
 {
-    trace.config.links.as_slice().len() as u8
+    config.links.as_slice().len() as u8
 }
 
 // Runs a trace.
 fn run_trace(alloc: Global, trace: Trace) -> Result<Summary, NoMemory> {
-    let links = links_of(&trace);
-    let mut world = World::new(alloc, &trace.config, trace.secrets, trace.seed)?;
-    Ok(run_steps(&mut world, trace.steps.as_slice(), links))
+    let Trace {
+        seed,
+        config,
+        secrets,
+        steps,
+    } = trace;
+    let links = links_of(&config);
+    let mut world = World::new(alloc, &config, secrets, seed)?;
+    Ok(run_steps(&mut world, steps.as_slice(), links))
 }
 
 /// Runs the trace that is made from a number.

@@ -15,7 +15,7 @@ use ppp_base::{LeadingZeros, read_number};
 use ppp_outside::{Sink, Source, TextWriter, Whole, read_whole, write_whole};
 use ppp_report::check_report;
 use ppp_trace::{
-    BadTrace, FaultKind, MOST_MADE_STEPS, MOST_OCTETS, TraceFault, fault_text, read_bare,
+    BadTrace, FaultKind, MOST_MADE_STEPS, MOST_OCTETS, Trace, TraceFault, fault_text, read_bare,
     read_trace,
 };
 use ppp_world::World;
@@ -124,16 +124,21 @@ fn replay_bare<O: Sink>(alloc: Global, octets: &[u8], output: &mut O) -> Ending
 fn replay_full<O: Sink>(alloc: Global, octets: &[u8], output: &mut O) -> Ending
     ensures { FullEnds result octets.now (O.state output.old) (O.state output.new) }
 {
-    let trace = match read_trace(alloc, octets) {
+    let Trace {
+        seed,
+        config,
+        secrets,
+        steps,
+    } = match read_trace(alloc, octets) {
         Ok(trace) => trace,
         Err(TraceFault::Bad(fault)) => return refuse(output, fault),
         Err(TraceFault::NoMemory(_)) => return Ending::NoMemory,
     };
-    let links = links_of(&trace);
-    let Ok(world) = World::new(alloc, &trace.config, trace.secrets, trace.seed) else {
+    let links = links_of(&config);
+    let Ok(world) = World::new(alloc, &config, secrets, seed) else {
         return Ending::NoMemory;
     };
-    if put_full(output, world, trace.steps.as_slice(), links) {
+    if put_full(output, world, steps.as_slice(), links) {
         Ending::Done
     } else {
         Ending::SinkFailed
