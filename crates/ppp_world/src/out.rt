@@ -1,4 +1,4 @@
-ghost use Rattle.std.specs.Prelude.{◌≡◌, IfSome, None, true};
+ghost use Rattle.std.specs.Prelude.{◌≡◌, IfSome, None, slice_get, true};
 ghost use Rattle.ppp_mark.specs.Table.{is_kind};
 
 use ppp_mark::{Log, Mark};
@@ -25,13 +25,17 @@ impl WorldOut {
     }
 }
 
+// The mark at a place.
+fn get(marks: &[Mark], at: usize) -> Option<Mark>
+    ensures { result ≡ slice_get marks.now at }
+{
+    marks.get(at).copied()
+}
+
 /// The mark at a place of a log.
-#[tactic(auto, using(crate::proofs::MarkLemmas::kind_at))]
+#[tactic(auto, using(crate::proofs::MarkLemmas::kind_in))]
 pub fn mark_at(log: &Log, at: u32) -> Option<Mark>
     ensures { IfSome result (λ m. is_kind m.kind ≡ true) }
 {
-    match log.marks().get(at as usize) {
-        Some(mark) => Some(*mark),
-        None => None,
-    }
+    get(log.marks(), at as usize)
 }

@@ -28,7 +28,9 @@ fn marks(world: &mut World) -> u32 {
     let mut kinds = 0u32;
     for _mark in 0..100u8 {
         kinds = match world.take_mark() {
-            Some((LogName::Link(_), mark)) => kinds.saturating_mul(100).saturating_add(u32::from(mark.kind)),
+            Some((LogName::Link(_), mark)) => kinds
+                .saturating_mul(100)
+                .saturating_add(u32::from(mark.kind)),
             _ => return kinds,
         };
     }
