@@ -99,7 +99,7 @@ meant_append files links (x ∷ xs) ys = go (ok_then (entry_item files x) (unles
     go (Ok said) rest = rw (rest said) (inner said (meant files (links_with links said) xs))
 
 -- a course behind another
-follow_more : (files : List NamedFile) (given : GivenValue) (course : Course) (rest : Awaits → Course)
+pub follow_more : (files : List NamedFile) (given : GivenValue) (course : Course) (rest : Awaits → Course)
     → joined files given (follow course rest) ≡ ok_then (joined files given course) (λ (next : GivenValue). joined files next (rest next.awaits))
 follow_more files given (course) rest = go course.entries course.ending
   where

@@ -9,3 +9,4 @@ mod SectionLemmas
 mod WholeLemmas
 mod Rows
 mod LawLemmas
+mod TextLemmas

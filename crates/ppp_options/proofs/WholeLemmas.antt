@@ -16,7 +16,7 @@ use Rattle.ppp_options.specs.declared.given.Awaits.TheVariants.{Nothing}
 abbrev pub start : GivenValue
 start = record { items = []; awaits = Nothing; links = 0 }
 
-end_whole : (ending : Ending) (items : Result (List Item) OptionsFault)
+pub end_whole : (ending : Ending) (items : Result (List Item) OptionsFault)
     → ok_then (ok_then items (left_open start ending)) (λ (given : GivenValue). ended given.awaits given.items) ≡ ok_then items (at_ending ending)
 end_whole (Open awaits) (Ok items) = refl
 end_whole (Broken fault) (Ok items) = refl

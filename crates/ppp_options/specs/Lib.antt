@@ -22,3 +22,4 @@ pub mod GivenValue
 pub mod Steps
 pub mod Scopes
 pub mod ConfigOf
+pub mod OptionsText

@@ -13,11 +13,13 @@ mod last;
 pub mod laws;
 mod link;
 mod links;
+mod options_text;
 mod placing;
 mod read;
 mod scope;
 #[cfg(test)]
 mod tests;
 
+pub use options_text::read_options_text;
 pub use ppp_option_words::{Config, FaultWord, LinkConfig, Links, MOST_LINKS, OptionsFault};
 pub use read::read_options;

@@ -79,7 +79,7 @@ fn config_of(alloc: Global, items: &[Item]) -> Result<Config, OptionsFault>
 }
 
 // What the words say at their end.
-fn end(alloc: Global, given: &Given) -> Result<Config, OptionsFault>
+pub(crate) fn end(alloc: Global, given: &Given) -> Result<Config, OptionsFault>
     ensures { Gives (λ config. config) result (ended given.now.awaits given.now.items) }
 {
     match given.awaits() {

@@ -10,23 +10,18 @@ use Rattle.ppp_outside.specs.Source.{SourceState}
 use Rattle.ppp_trace.proofs.DecisionLemmas.{trace_is_short}
 use Rattle.ppp_trace.proofs.OnceLemmas.{no_fault}
 use Rattle.ppp_trace.specs.BareTrace.{IsBareTrace}
+use Rattle.ppp_trace.specs.FirstFault.{FirstFault}
 use Rattle.ppp_trace.specs.declared.TheConstants.{MOST_OCTETS}
 use Rattle.ppp_trace.specs.declared.fault.BadTrace.{BadTrace}
 use Rattle.ppp_trace.specs.declared.step.BareStep.{BareStep}
 use Rattle.ppp_report.specs.BadLine.{IsLawfulReport}
-use Rattle.ppp_replay.specs.Run.{BeginsFull, Ends, IsBadAt, IsFull, IsInputFault, IsStatusOf, ReadsInput, Refuses, WritesFault, status_of}
+use Rattle.ppp_replay.specs.Run.{BeginsFull, Ends, InputEnds, IsBadAt, IsBadInput, IsGoodInput, IsInputFault, IsStatusOf, IsTooLong, ReadsInput, Replays, WritesFault, size_fault, status_of}
 use Rattle.ppp_replay.specs.declared.run.Ending.{Ending}
 use Rattle.ppp_replay.specs.declared.run.Ending.TheVariants as ending
 use Rattle.ppp_replay.specs.declared.run.Task.{Task}
 use Rattle.ppp_replay.specs.declared.run.Task.TheVariants as task
 
 -- ---- a trace is no other input
-
-pub trace_no_fault : (octets : List ℕ) (steps : List BareStep) (bad : BadTrace) → IsBareTrace octets steps → IsInputFault octets bad → ⊥
-trace_no_fault octets steps bad h fault = elim fault [
-  | inl long ↦ absurd (omega (arith, long.0, h.few, trace_is_short octets steps h))
-  | inr first ↦ no_fault octets steps bad h first.1
-]
 
 differ : (x y : ℕ) → x ≡ y → x ≡ 98 → y ≡ 102 → ⊥
 differ x y e p q = absurd (omega arith)
@@ -38,6 +33,15 @@ pub trace_not_full : (octets : List ℕ) (steps : List BareStep) → IsBareTrace
 trace_not_full octets steps h full = elim h.text [
   | inl is ↦ first_octet _ full.0 (sym is ∙ full.1)
   | inr is ↦ first_octet _ full.0 (sym is ∙ full.1)
+]
+
+pub trace_no_fault : (octets : List ℕ) (steps : List BareStep) (bad : BadTrace) → IsBareTrace octets steps → IsInputFault octets bad → ⊥
+trace_no_fault octets steps bad h fault = elim fault [
+  | inl long ↦ absurd (omega (arith, long.0, h.few, trace_is_short octets steps h))
+  | inr other ↦ elim other [
+    | inl first ↦ no_fault octets steps bad h first.2
+    | inr full ↦ trace_not_full octets steps h full.1
+  ]
 ]
 
 -- ---- what was read, and all there was
@@ -64,39 +68,39 @@ known_is old new all octets read known =
     let rest = rest_of all octets new.left given in
     record { rest = rest.0; is = rest.1; enough = elim read.enough [ inl end ↦ inl (rest.2 end) | inr long ↦ inr long ] }
 
-full_grows : (all octets : List ℕ) → Known all octets → BeginsFull octets → BeginsFull all
-full_grows all octets k full = (full.0 ++ k.rest, k.is ∙ ap (λ xs. xs ++ k.rest) full.1 ∙ append_assoc (codes "full") full.0 k.rest)
+-- a replay's input is all there was
+pub replayed : (end : Ending) (old new : SourceState) (before after : SinkState) (all : List ℕ) → Replays end old new before after → old.left ≡ Some all
+    → (length all ≤ MOST_OCTETS) × InputEnds end all before after
+replayed end old new before after all r known =
+    let same : r.octets ≡ all = whole_is old new all r.octets r.all known in
+    (subst (λ o. length o ≤ MOST_OCTETS) same r.small, subst (λ o. InputEnds end o before after) same r.ends)
 
-front_is_full : (octets rest more : List ℕ) → 4 ≤ length octets → octets ++ rest ≡ codes "full" ++ more → BeginsFull octets
-front_is_full [] rest more long e = absurd (omega arith)
-front_is_full (a ∷ []) rest more long e = absurd (omega arith)
-front_is_full (a ∷ b ∷ []) rest more long e = absurd (omega arith)
-front_is_full (a ∷ b ∷ c ∷ []) rest more long e = absurd (omega arith)
-front_is_full (a ∷ b ∷ c ∷ d ∷ octets) rest more long e = (octets, cc)
+too_long : (old new : SourceState) (before after : SinkState) (all : List ℕ) → IsTooLong old new before after → old.left ≡ Some all → MOST_OCTETS < length all
+too_long old new before after all t known =
+    let given : Consumes (Some all) new.left t.octets = rw known at t.given.consumed in
+    let rest = rest_of all t.octets new.left given in
+    omega (arith, t.long, ap length rest.1, length-append t.octets rest.0)
 
-full_shrinks : (all octets : List ℕ) → Known all octets → BeginsFull all → BeginsFull octets
-full_shrinks all octets k full = elim k.enough [
-  | inl none ↦ (full.0, sym (append-nil octets) ∙ ap (λ xs. octets ++ xs) (sym none) ∙ sym k.is ∙ full.1)
-  | inr long ↦ front_is_full octets k.rest full.0 (omega (arith, long)) (sym k.is ∙ full.1)
+bad_of : (all : List ℕ) (bad : BadTrace) → IsInputFault all bad → IsBadInput all
+bad_of all bad fault = (λ steps trace. trace_no_fault all steps bad trace fault, (bad, fault))
+
+refused_input : (before after : SinkState) (all : List ℕ) → length all ≤ MOST_OCTETS → InputEnds ending.Refused all before after → IsBadInput all
+refused_input before after all small ends = elim ends [
+  | inl full ↦ bad_of all full.1.0 (inr (inr (small, full.0, full.1.1)))
+  | inr bare ↦ bad_of all bare.1.1.0 (inr (inl (small, bare.0, bare.1.1.1)))
 ]
 
-fault_grows : (all octets : List ℕ) (bad : BadTrace) → Known all octets → IsInputFault octets bad → IsInputFault all bad
-fault_grows all octets bad k fault = elim k.enough [
-  | inl none ↦ let same : octets ≡ all = sym (append-nil octets) ∙ ap (λ xs. octets ++ xs) (sym none) ∙ sym k.is in rw (← same) fault
-  | inr long ↦ elim fault [
-    | inl size ↦ inl (omega (arith, size.0, ap length k.is, length-append octets k.rest), size.1)
-    | inr first ↦ absurd (omega (arith, first.0, long))
-  ]
+done_input : (before after : SinkState) (all : List ℕ) → InputEnds ending.Done all before after → IsGoodInput all
+done_input before after all ends = elim ends [
+  | inl full ↦ inr (full.1.0, full.1.1)
+  | inr bare ↦ inl (bare.1.0, bare.1.1)
 ]
 
-pub refused_known : (old new : SourceState) (before after : SinkState) (all : List ℕ) → Refuses old new before after → old.left ≡ Some all
-    → ¬ BeginsFull all × ((bad : BadTrace) × IsInputFault all bad × WritesFault before after bad)
-refused_known old new before after all r known =
-    let k = known_is old new all r.octets r.read known in
-    (λ full. r.other (full_shrinks all r.octets k full), (r.bad, fault_grows all r.octets r.bad k r.fault, r.line))
-
-pub full_known : (old new : SourceState) (before after : SinkState) (all : List ℕ) → IsFull old new before after → old.left ≡ Some all → BeginsFull all
-full_known old new before after all f known = full_grows all f.octets (known_is old new all f.octets f.read known) f.begins
+failed_input : (before after : SinkState) (all : List ℕ) → InputEnds ending.SinkFailed all before after → IsGoodInput all
+failed_input before after all ends = elim ends [
+  | inl full ↦ inr (full.1.0, full.1.1)
+  | inr bare ↦ inl (bare.1.0, bare.1.1)
+]
 
 -- ---- tests and what they tell
 
@@ -123,25 +127,23 @@ pub complete_of : (t : Option Task) (e : Ending) (old new : SourceState) (before
 complete_of None ending.OtherWords old new before after all ends known = refl
 complete_of None ending.Done old new before after all ends known = absurd ends
 complete_of None ending.Refused old new before after all ends known = absurd ends
-complete_of None ending.FullTrace old new before after all ends known = absurd ends
 complete_of None ending.NoMemory old new before after all ends known = absurd ends
 complete_of None ending.SourceFailed old new before after all ends known = absurd ends
 complete_of None ending.SinkFailed old new before after all ends known = absurd ends
 complete_of (Some task.Replay) ending.OtherWords old new before after all ends known = absurd ends
 complete_of (Some task.Replay) ending.NoMemory old new before after all ends known = inl refl
 complete_of (Some task.Replay) ending.SourceFailed old new before after all ends known = inr (inl refl)
-complete_of (Some task.Replay) ending.FullTrace old new before after all ends known = inr (inr (inl (refl, full_known old new before after all ends known)))
-complete_of (Some task.Replay) ending.Refused old new before after all ends known =
-    let refused = refused_known old new before after all ends known in
-    inr (inr (inr (inl (refl, refused.0, λ steps trace. trace_no_fault all steps refused.1.0 trace refused.1.1))))
+complete_of (Some task.Replay) ending.Refused old new before after all ends known = elim ends [
+  | inl read ↦ let r = replayed ending.Refused old new before after all read known in inr (inr (inl (refl, refused_input before after all r.0 r.1)))
+  | inr long ↦ inr (inr (inl (refl, bad_of all size_fault (inl (too_long old new before after all long known, refl)))))
+]
 complete_of (Some task.Replay) ending.Done old new before after all ends known =
-    inr (inr (inr (inr (inl refl, (ends.steps, subst (λ o. IsBareTrace o ends.steps) (whole_is old new all ends.octets ends.read.all known) ends.read.trace)))))
+    let r = replayed ending.Done old new before after all ends known in inr (inr (inr (inl refl, done_input before after all r.1)))
 complete_of (Some task.Replay) ending.SinkFailed old new before after all ends known =
-    inr (inr (inr (inr (inr refl, (ends.steps, subst (λ o. IsBareTrace o ends.steps) (whole_is old new all ends.octets ends.read.all known) ends.read.trace)))))
+    let r = replayed ending.SinkFailed old new before after all ends known in inr (inr (inr (inr refl, failed_input before after all r.1)))
 complete_of (Some task.Check) ending.OtherWords old new before after all ends known = absurd ends
 complete_of (Some task.Check) ending.NoMemory old new before after all ends known = inl refl
 complete_of (Some task.Check) ending.SourceFailed old new before after all ends known = inr (inl refl)
-complete_of (Some task.Check) ending.FullTrace old new before after all ends known = absurd ends
 complete_of (Some task.Check) ending.Refused old new before after all ends known =
     inr (inr (inl (refl, (ends.line, bad_grows all ends.octets ends.line (known_is old new all ends.octets ends.read known) ends.bad))))
 complete_of (Some task.Check) ending.Done old new before after all ends known =
@@ -150,3 +152,14 @@ complete_of (Some task.Check) ending.Done old new before after all ends known =
 complete_of (Some task.Check) ending.SinkFailed old new before after all ends known =
     let same : ends.octets ≡ all = whole_is old new all ends.octets ends.read.all known in
     inr (inr (inr (inr refl, subst (λ o. length o ≤ MOST_OCTETS) same ends.read.small, subst (λ o. IsLawfulReport o) same ends.read.lawful)))
+complete_of (Some (task.Make seed links steps)) ending.OtherWords old new before after all ends known = absurd ends
+complete_of (Some (task.Make seed links steps)) ending.NoMemory old new before after all ends known = inl refl
+complete_of (Some (task.Make seed links steps)) ending.SourceFailed old new before after all ends known = absurd ends.1
+complete_of (Some (task.Make seed links steps)) ending.Refused old new before after all ends known = absurd ends.1
+complete_of (Some (task.Make seed links steps)) ending.Done old new before after all ends known = inr (inl refl)
+complete_of (Some (task.Make seed links steps)) ending.SinkFailed old new before after all ends known = inr (inr refl)
+
+-- ---- a bare trace has no fault
+
+pub fault_no_trace : (octets : List ℕ) (steps : List BareStep) (bad : BadTrace) → IsBareTrace octets steps → FirstFault octets bad → ⊥
+fault_no_trace octets steps bad h fault = no_fault octets steps bad h fault

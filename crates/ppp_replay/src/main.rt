@@ -3,6 +3,8 @@
 #![tactic(auto)]
 
 mod act_names;
+mod full;
+mod made;
 mod player;
 mod run;
 #[cfg(test)]

@@ -84,8 +84,8 @@ fn refuses_other_inputs(rt: HostRuntime) -> Result<(), Fail> {
             3,
             "bad trace: line 3: step\n",
         ),
-        ("full 1\nx", 4, ""),
-        ("fuller", 4, ""),
+        ("full 1\nx", 3, "bad trace: line 2: header\n"),
+        ("fuller", 3, "bad trace: line 1: header\n"),
     ];
     for (input, status, output) in rows {
         let (answer, written) = replayed(rt.alloc(), input, &[], &[])?;
@@ -165,4 +165,69 @@ fn checks_reports(rt: HostRuntime) -> Result<(), Fail> {
 fn words_that_are_not_text(rt: HostRuntime) {
     assert_eq!(rt; status_of(&io::Error::from(io::ErrorKind::InvalidData)), 2);
     assert_eq!(rt; status_of(&io::Error::from(io::ErrorKind::OutOfMemory)), 32);
+}
+
+#[test]
+fn replays_full_traces(rt: HostRuntime) -> Result<(), Fail> {
+    let rows = [
+        (
+            "full 1\noptions 1\nsocket h:1\npap 0\nchap 0\n1 begin\n1 dial fail\n",
+            "1 taken\n link 1 0 attempt 0 0 1\n2 taken\n link 1 0 cause 1 0 1\n link 1 0 over 0 0 1\n link 1 0 finished 7 0 0\n",
+        ),
+        (
+            "full 1\noptions 1\nsocket h:1\npap 0\nchap 0\n1 begin\n1 word TERM\n1 dial ok\n",
+            "1 taken\n link 1 0 attempt 0 0 1\n2 taken\n link 1 0 signal 3 0 0\n link 1 0 cause 11 3 1\n3 taken\n link 1 0 over 0 0 1\n link 1 0 finished 5 0 0\n",
+        ),
+        (
+            "full 1\noptions 1\nsocket h:1 nomagic\npap 0\nchap 0\n1 begin\n1 dial ok\n1 sent ok\n1 line end\n",
+            "1 taken\n link 1 0 attempt 0 0 1\n2 taken\n link 1 0 line 0 0 1\n3 taken\n link 1 out 7eff7d23c0217d217d217d207d2e7d227d267d207d207d207d207d277d227d287d2270347e\n4 taken\n link 1 0 cause 10 0 1\n link 1 0 over 0 0 1\n link 1 0 finished 16 0 0\n",
+        ),
+        (
+            "full 1\noptions 1\nsocket h:1\npap 0\nchap 0\n1 dial ok\n1 rx 7e\n1 rx 1 0 7e\n1 line left\n1 sent ok\n1 hook 1 none\nunit 0 hook 1 none\ncarry 1\ntick 5\n",
+            "1 stale\n2 stale\n3 stale\n4 stale\n5 stale\n6 stale\n7 stale\n8 taken\n9 taken\n",
+        ),
+    ];
+    for (input, wanted) in rows {
+        let (status, output) = replayed(rt.alloc(), input, &[], &[])?;
+        assert!(rt;
+            status == 0 && output.as_slice() == wanted.as_bytes(),
+            "{input}"
+        );
+    }
+    Ok(())
+}
+
+#[test]
+fn sums_made_traces_up(rt: HostRuntime) -> Result<(), Fail> {
+    let rows = [
+        (
+            ["-g", "7", "1", "1"],
+            "steps 1 taken 1 stale 0 marks 1 given 0\n",
+        ),
+        (
+            ["-g", "7", "1", "3"],
+            "steps 3 taken 3 stale 0 marks 2 given 0\n",
+        ),
+        (
+            ["-g", "7", "1", "8"],
+            "steps 8 taken 8 stale 0 marks 7 given 0\n",
+        ),
+    ];
+    for (words, wanted) in rows {
+        let (status, output) = ran(rt.alloc(), &words, "", &[], &[])?;
+        assert!(rt; status == 0 && output.as_slice() == wanted.as_bytes());
+    }
+    let others = [
+        ["-g", "7", "0", "1"],
+        ["-g", "7", "17", "1"],
+        ["-g", "7", "1", "0"],
+        ["-g", "7", "1", "200001"],
+        ["-g", "07", "1", "1"],
+        ["-h", "7", "1", "1"],
+    ];
+    for words in others {
+        let (status, _output) = ran(rt.alloc(), &words, "", &[], &[])?;
+        assert_eq!(rt; status, 2);
+    }
+    Ok(())
 }

@@ -9,3 +9,4 @@ pub mod SignalLemmas
 pub mod StepLemmas
 pub mod TellLemmas
 pub mod TraceLemmas
+mod MadeLemmas

@@ -1,12 +1,8 @@
 -- The parts of a full trace.
-use Rattle.std.proofs.Common.{◌≡◌, ℕ, zero, suc, ◌+◌, ◌<◌, ◌≤◌, ◌^◌, min, List, [], ◌∷◌, ◌++◌, length, Result, Ok, Err, Some, refl, ap, sym, subst, ◌∙◌, arith, inl, inr, length-append, append-nil, append_assoc, slice_get}
+use Rattle.std.proofs.Common.{◌≡◌, ℕ, zero, suc, ◌+◌, ◌<◌, ◌≤◌, ◌^◌, min, List, [], ◌∷◌, ◌++◌, length, Some, refl, ap, sym, subst, ◌∙◌, arith, inl, inr, length-append, append-nil, append_assoc, slice_get}
 use Rattle.std.proofs.lemmas.Bool.{cases_lt}
 use Rattle.std.proofs.lemmas.Option.{same_Some}
 use Rattle.ppp_mark.specs.Lines.{lines_of}
-use Rattle.ppp_option_words.specs.Answers.{Gives, GivesUnlessFailed, failed}
-use Rattle.ppp_option_words.specs.declared.fault.OptionsFault.{OptionsFault}
-use Rattle.ppp_option_words.specs.declared.fault.OptionsFault.TheVariants as options
-use Rattle.ppp_outside.specs.Counts.{CountsFault}
 use Rattle.ppp_trace.specs.FirstFault.{NotBehind, rank}
 use Rattle.ppp_trace.specs.FullFault.{IsFirst, IsWrongStep}
 use Rattle.ppp_trace.specs.FullSteps.{IsNoFullStep, SpellsStep}
@@ -135,21 +131,3 @@ one_too_many links n text rest others line count at s told small so_far lines sp
         let is : line ≡ x.1 = same_Some line x.1 (sym (there_at so_far.own (lines_of others) line) ∙ ap (slice_get (so_far.own ++ line ∷ lines_of others)) (sym place) ∙ x.2) in
         absurd (x.3 s (subst (SpellsStep links s) is spells))
     low here other same (inr m) = subst (λ k. 5 ≤ rank k) (sym m.4.0) (omega arith)
-
--- ---- options
-
-pub never_fails : {X Y : Type 0} → (view : X → Y) (answer : Result X OptionsFault) (read : Result Y OptionsFault) → GivesUnlessFailed view answer read → CountsFault (failed answer) 0 0
-    → Gives view answer read
-never_fails view (Ok x) read gives counts = gives
-never_fails view (Err options.NoMemory) read gives counts = tt
-never_fails view (Err (options.FileFault name)) read gives counts = omega (arith, counts)
-never_fails view (Err (options.Unknown word)) read gives counts = gives
-never_fails view (Err (options.Missing word)) read gives counts = gives
-never_fails view (Err (options.BadNumber word)) read gives counts = gives
-never_fails view (Err (options.OutOfRange word)) read gives counts = gives
-never_fails view (Err (options.Clash one other)) read gives counts = gives
-never_fails view (Err (options.Depth word)) read gives counts = gives
-never_fails view (Err (options.BadQuote word line)) read gives counts = gives
-never_fails view (Err (options.TooMany number)) read gives counts = gives
-never_fails view (Err (options.NoFile word)) read gives counts = gives
-never_fails view (Err (options.BadScript word)) read gives counts = gives

@@ -4,7 +4,7 @@ use Rattle.std.specs.Fmt.{decimal}
 use Rattle.ppp_mark.specs.Lines.{lines_of}
 use Rattle.ppp_option_words.specs.ConfigValues.{ConfigValues}
 use Rattle.ppp_option_words.specs.declared.fault.OptionsFault.{OptionsFault}
-use Rattle.ppp_options.specs.ConfigOf.{ReadOf}
+use Rattle.ppp_options.specs.OptionsText.{OptionsOf}
 use Rattle.ppp_secrets.specs.Reading.{secrets_of}
 use Rattle.ppp_trace.specs.FirstFault.{NotBehind}
 use Rattle.ppp_trace.specs.FullSteps.{IsNoFullStep}
@@ -49,9 +49,9 @@ abbrev pub InSection : Line → FaultKind → (List Line → Type 0) → (List L
 InSection name kind Wrong Next n lines bad =
     MissesSection name n lines bad ⊎ (HasLongLine name n lines bad ⊎ (IsWrongSection name kind Wrong n lines bad ⊎ IsBehind name Next n lines bad))
 
--- The options are read as one file over no others; it is called `trace`.
+-- The options are read as one file over no files: no word of them finds one.
 abbrev pub options_in : List ℕ → Result ConfigValues OptionsFault
-options_in text = ReadOf (codes "file" ∷ codes "trace" ∷ []) (record { name = codes "trace"; octets = text } ∷ [])
+options_in text = OptionsOf text
 
 -- what could not be read
 abbrev pub IsErr : {X E : Type 0} → Result X E → Type 0

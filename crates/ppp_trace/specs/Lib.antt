@@ -10,3 +10,4 @@ pub mod FullFault
 pub mod Sections
 pub mod Parts
 pub mod IsTrace
+pub mod MadeTrace

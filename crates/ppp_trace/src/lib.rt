@@ -15,21 +15,25 @@ mod fault;
 mod fields;
 mod full_step;
 pub mod laws;
+mod life;
 mod link_step;
 mod link_word;
+mod made;
+mod made_line;
 mod parts;
 mod sections;
 mod step;
 #[cfg(test)]
 mod tests;
 mod trace;
-mod trace_file;
+mod whole_trace;
 mod words;
 mod world_step;
 
 pub use bare::read_bare;
 pub use fault::{BadTrace, FaultKind, TraceFault, fault_text};
 pub use full_step::read_step;
+pub use whole_trace::{MOST_MADE_STEPS, made_text, made_trace};
 use ppp_fsm::FsmEvent;
 pub use step::BareStep;
 pub use trace::{Trace, read_trace};

@@ -1,6 +1,4 @@
-ghost use Rattle.std.specs.Prelude.{◌≡◌, ℕ, ◌+◌, ◌≤◌, ◌∷◌, [], codes, map, Ok, List, length, IfOk, MatchResult};
-ghost use Rattle.std.specs.String.{string_bytes};
-ghost use Rattle.ppp_option_words.specs.Answers.{Gives};
+ghost use Rattle.std.specs.Prelude.{◌≡◌, ℕ, ◌+◌, ◌≤◌, Ok, List, length, MatchResult};
 ghost use Rattle.ppp_mark.specs.Lines.{lines_of};
 ghost use Rattle.ppp_secrets.specs.Reading.{secrets_of};
 ghost use Rattle.ppp_trace.specs.FullFault.{IsWrongStep, options_in};
@@ -11,38 +9,18 @@ use crate::MOST_FULL_STEPS;
 use crate::fault::{FaultKind, TraceFault};
 use crate::full_step::read_step;
 use crate::sections::bad_at;
-use crate::trace_file::TraceFile;
 use ppp_base::NoMemory;
 use ppp_mark::lines::first_line;
 use ppp_option_words::{Config, OptionsFault};
-use ppp_options::read_options;
+use ppp_options::read_options_text;
 use ppp_secrets::{Secrets, SecretsFault};
 use std::alloc::Global;
-
-// The words that name the file of the options.
-fn file_words(alloc: Global) -> Result<Vec<String>, NoMemory>
-    ensures { IfOk result (λ words. map string_bytes words.items ≡ codes "file" ∷ codes "trace" ∷ []) }
-{
-    let mut words = Vec::new(alloc);
-    words.push(String::from_str(alloc, "file")?)?;
-    words.push(String::from_str(alloc, "trace")?)?;
-    Ok(words)
-}
-
-// What options are, by words and the file.
-fn options(alloc: Global, text: &[u8]) -> Result<Config, OptionsFault>
-    ensures { Gives (λ config. config) result (options_in text.now) }
-{
-    let words = file_words(alloc)?;
-    let mut file = TraceFile::new(Vec::from_slice(alloc, text)?);
-    read_options(alloc, words.as_slice(), &mut file)
-}
 
 /// The options whose section stands at this line.
 pub fn options_at(alloc: Global, text: &[u8], line: u64) -> Result<Config, TraceFault>
     ensures { MatchResult result (λ config. options_in text.now ≡ Ok config) (TellsOptions line text.now) }
 {
-    match options(alloc, text) {
+    match read_options_text(alloc, text) {
         Ok(config) => Ok(config),
         Err(OptionsFault::NoMemory) => Err(TraceFault::NoMemory(NoMemory)),
         Err(_) => Err(bad_at(line, FaultKind::Options)),

@@ -253,6 +253,14 @@ fn tells_the_first_fault_of_a_full_trace(rt: HostRuntime) -> Result<(), Fail> {
             "bad trace: line 2: options\n",
         ),
         (
+            "full 1\noptions 1\nsocket h:1 connect 'chat -f trace'\npap 0\nchap 0\n",
+            "bad trace: line 2: options\n",
+        ),
+        (
+            "full 1\noptions 1\nsocket h:1 connect 'chat OK AT'\npap 0\nchap 0\n",
+            "",
+        ),
+        (
             "full 1\noptions 1\nsocket h:1\npap 1\na\nchap 0\n",
             "bad trace: line 4: secrets\n",
         ),
@@ -294,5 +302,18 @@ fn keeps_what_a_trace_says(rt: HostRuntime) -> Result<(), Fail> {
     assert_eq!(rt; trace.seed, 7);
     assert_eq!(rt; trace.config.links.as_slice().len(), 2);
     assert_eq!(rt; trace.steps.as_slice(), b"2 begin\n".as_slice());
+    Ok(())
+}
+
+#[test]
+fn makes_a_trace(rt: HostRuntime) -> Result<(), Fail> {
+    let text = crate::made_text(rt.alloc(), 7, 1, 8)?;
+    let wanted =
+        "full 7\noptions 2\nloglimit 65536 nomagic persist holdoff 0 maxfail 0\nlink socket h:1 unit 0 10.0.1.1:10.0.1.2\npap 0\nchap 0\n1 begin\n1 dial ok\n1 sent ok\n";
+    match std::str::from_utf8(text.as_slice()) {
+        Ok(text) => assert!(rt; text.starts_with(wanted), "{text}"),
+        Err(_) => assert!(rt; false),
+    }
+    assert!(rt; crate::made_trace(rt.alloc(), 7, 16, 400).is_ok());
     Ok(())
 }
