@@ -33,10 +33,10 @@ mod world_step;
 pub use bare::read_bare;
 pub use fault::{BadTrace, FaultKind, TraceFault, fault_text};
 pub use full_step::read_step;
-pub use whole_trace::{MOST_MADE_STEPS, made_text, made_trace};
 use ppp_fsm::FsmEvent;
 pub use step::BareStep;
 pub use trace::{Trace, read_trace};
+pub use whole_trace::{MOST_MADE_STEPS, made_text, made_trace};
 pub use world_step::{LineOctets, WorldStep};
 
 /// How many steps a bare trace has at most.

@@ -155,11 +155,9 @@ impl World {
         ensures same { self.new ≡ self.old }
         ensures kind { IfSome result (λ m. is_kind m.1.kind ≡ true) }
     {
-        let links = self.links.len();
-        if self.at < links {
-            self.next_of_link()
-        } else {
-            self.next_of_unit(self.at - links)
+        match self.at.checked_sub(self.links.len()) {
+            None => self.next_of_link(),
+            Some(at) => self.next_of_unit(at),
         }
     }
 
