@@ -7,6 +7,7 @@ use Rattle.std.proofs.lemmas.List.{length-append}
 use Rattle.ppp_outside.specs.Reading.{GivesAll}
 use Rattle.ppp_outside.specs.Sink.{SinkState}
 use Rattle.ppp_outside.specs.Source.{SourceState}
+use Rattle.ppp_outside.specs.Writing.{Rests}
 use Rattle.ppp_trace.proofs.DecisionLemmas.{trace_is_short}
 use Rattle.ppp_trace.proofs.OnceLemmas.{no_fault}
 use Rattle.ppp_trace.specs.BareTrace.{IsBareTrace}
@@ -15,7 +16,7 @@ use Rattle.ppp_trace.specs.declared.TheConstants.{MOST_OCTETS}
 use Rattle.ppp_trace.specs.declared.fault.BadTrace.{BadTrace}
 use Rattle.ppp_trace.specs.declared.step.BareStep.{BareStep}
 use Rattle.ppp_report.specs.BadLine.{IsLawfulReport}
-use Rattle.ppp_replay.specs.Run.{BeginsFull, Ends, InputEnds, IsBadAt, IsBadInput, IsGoodInput, IsInputFault, IsStatusOf, IsTooLong, ReadsInput, Replays, WritesFault, size_fault, status_of}
+use Rattle.ppp_replay.specs.Run.{BareEnds, BeginsFull, Ends, FullEnds, InputEnds, IsBadAt, IsBadInput, IsGoodInput, IsInputFault, IsStatusOf, IsTooLong, ReadsInput, Replays, WritesFault, size_fault, status_of}
 use Rattle.ppp_replay.specs.declared.run.Ending.{Ending}
 use Rattle.ppp_replay.specs.declared.run.Ending.TheVariants as ending
 use Rattle.ppp_replay.specs.declared.run.Task.{Task}
@@ -101,6 +102,28 @@ failed_input before after all ends = elim ends [
   | inl full ↦ inr (full.1.0, full.1.1)
   | inr bare ↦ inl (bare.1.0, bare.1.1)
 ]
+
+-- what an ending says of octets that were read to the source's end
+read_rests : (octets : List ℕ) (before after : SinkState) → InputEnds ending.NoMemory octets before after → Rests before after
+read_rests octets before after ends = elim ends [
+  | inl full ↦ full.1
+  | inr bare ↦ bare.1
+]
+
+no_such : (e : Ending) (octets : List ℕ) (before after : SinkState) → (FullEnds e octets before after → ⊥) → (BareEnds e octets before after → ⊥) → InputEnds e octets before after → ⊥
+no_such e octets before after f b ends = elim ends [
+  | inl full ↦ f full.1
+  | inr bare ↦ b bare.1
+]
+
+pub read_ends : {old new : SourceState} {before after : SinkState} (e : Ending) (octets : List ℕ) → GivesAll old new octets → length octets ≤ MOST_OCTETS
+    → InputEnds e octets before after → Ends (Some task.Replay) e old new before after
+read_ends ending.Done octets all small ends = record { octets = octets; all = all; small = small; ends = ends }
+read_ends ending.SinkFailed octets all small ends = record { octets = octets; all = all; small = small; ends = ends }
+read_ends ending.Refused octets all small ends = inl (record { octets = octets; all = all; small = small; ends = ends })
+read_ends {before = before} {after = after} ending.NoMemory octets all small ends = (all.given.sound, read_rests octets before after ends)
+read_ends {before = before} {after = after} ending.OtherWords octets all small ends = absurd (no_such ending.OtherWords octets before after (λ x. x) (λ x. x) ends)
+read_ends {before = before} {after = after} ending.SourceFailed octets all small ends = absurd (no_such ending.SourceFailed octets before after (λ x. x) (λ x. x) ends)
 
 -- ---- tests and what they tell
 
