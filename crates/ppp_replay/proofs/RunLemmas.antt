@@ -116,14 +116,14 @@ no_such e octets before after f b ends = elim ends [
   | inr bare ↦ b bare.1
 ]
 
-pub read_ends : {old new : SourceState} {before after : SinkState} (e : Ending) (octets : List ℕ) → GivesAll old new octets → length octets ≤ MOST_OCTETS
+pub read_ends : {old new : SourceState} (before after : SinkState) (e : Ending) (octets : List ℕ) → GivesAll old new octets → length octets ≤ MOST_OCTETS
     → InputEnds e octets before after → Ends (Some task.Replay) e old new before after
-read_ends ending.Done octets all small ends = record { octets = octets; all = all; small = small; ends = ends }
-read_ends ending.SinkFailed octets all small ends = record { octets = octets; all = all; small = small; ends = ends }
-read_ends ending.Refused octets all small ends = inl (record { octets = octets; all = all; small = small; ends = ends })
-read_ends {before = before} {after = after} ending.NoMemory octets all small ends = (all.given.sound, read_rests octets before after ends)
-read_ends {before = before} {after = after} ending.OtherWords octets all small ends = absurd (no_such ending.OtherWords octets before after (λ x. x) (λ x. x) ends)
-read_ends {before = before} {after = after} ending.SourceFailed octets all small ends = absurd (no_such ending.SourceFailed octets before after (λ x. x) (λ x. x) ends)
+read_ends before after ending.Done octets all small ends = record { octets = octets; all = all; small = small; ends = ends }
+read_ends before after ending.SinkFailed octets all small ends = record { octets = octets; all = all; small = small; ends = ends }
+read_ends before after ending.Refused octets all small ends = inl (record { octets = octets; all = all; small = small; ends = ends })
+read_ends before after ending.NoMemory octets all small ends = (all.given.sound, read_rests octets before after ends)
+read_ends before after ending.OtherWords octets all small ends = absurd (no_such ending.OtherWords octets before after (λ x. x) (λ x. x) ends)
+read_ends before after ending.SourceFailed octets all small ends = absurd (no_such ending.SourceFailed octets before after (λ x. x) (λ x. x) ends)
 
 -- ---- tests and what they tell
 
