@@ -7,8 +7,6 @@
 
 mod out;
 mod place;
-#[cfg(test)]
-mod tests;
 mod units;
 mod world;
 
