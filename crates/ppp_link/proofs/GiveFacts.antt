@@ -2,7 +2,11 @@
 use Rattle.std.proofs.Common.{arith, refl, ap, sym, subst, ◌∙◌, ◌≡◌, ℕ, ◌+◌, ◌-◌, ◌<◌, ◌≤◌, Bool, true, false, not, ◌&&◌, Option, None, Some, is_some}
 use Rattle.std.specs.Prelude.{IfNone, IfSome, OnSome}
 use Rattle.std.proofs.lemmas.Bool.{and_parts}
-use Rattle.ppp_hooks.specs.HookState.{WasHandedIn}
+use Rattle.ppp_base.specs.declared.hook_target.HookTarget.TheVariants.{Link as OfLink}
+use Rattle.ppp_hooks.specs.HookPast.{not_started_in, starts_in}
+use Rattle.ppp_hooks.specs.HookState.{JobState, WasHandedIn}
+use Rattle.ppp_mark.specs.Log.{LogState}
+use Rattle.ppp_mark.specs.Scripts.{said_in}
 use Rattle.ppp_outside.specs.Dialer.{DialerState}
 use Rattle.ppp_outside.specs.Line.{LineState}
 use Rattle.ppp_link_core.specs.declared.link_core.LinkCore.{LinkCore}
@@ -17,7 +21,7 @@ use Rattle.ppp_link_steps.specs.Calm.{Calm, pending}
 use Rattle.ppp_link.specs.declared.body.LinkBody.{LinkBody}
 use Rattle.ppp_link.specs.Between.{made_by}
 use Rattle.ppp_link.specs.ErrandValues.{DialJobState, ReadingState, WritingState}
-use Rattle.ppp_link.specs.Given.{IsDialOf, IsReadingOf, IsWritingOf}
+use Rattle.ppp_link.specs.Given.{IsDialOf, IsJobOf, IsReadingOf, IsWritingOf}
 use Rattle.ppp_link.specs.Link.{IsWhole, dials_of}
 use Rattle.ppp_link.specs.Steps.{Gives}
 use Rattle.ppp_link.proofs.KeepFacts.{Tried, counts_to, dial_is, dials_is, failed_is, reading_is, session_is, writing_is}
@@ -169,3 +173,19 @@ reading_keeps {I = I} {f = f} {g = g} {l = l} {c = c} e gave goes w = subst (λ 
 pub writing_keeps : {D I O S : Type 0} {f : D → DialerState} {g : I → LineState} {l : LinkBody D I O S} {c : LinkCore S} {v : Option O} → v ≡ None → Gave with_writing_out l.core c → Goes c → IsWhole f g l
     → IsWhole f g (record l { core = c; output = v })
 writing_keeps {O = O} {f = f} {g = g} {l = l} {c = c} e gave goes w = subst (λ (x : Option O). IsWhole f g (record l { core = c; output = x })) (sym e) (writing_whole gave goes w)
+
+-- THE JOB
+
+pub job_is : {D I O S A : Type 0} {l : LinkBody D I O S} (job : Option (JobState A)) → IfSome job (λ j. (j.target ≡ OfLink l.core.records.id) × (j.number ≡ (told l.core.records).starts))
+    → IfSome job (λ j. (j.number ≡ starts_in (said_in l.core.records.scripts.log.past)) × (j.not_started ≡ not_started_in (said_in l.core.records.scripts.log.past)))
+    → (s : LinkState) → IsGoing l.core s → IfSome job (IsJobOf s)
+job_is None whose said s k = tt
+job_is {l = l} (Some j) whose said s k =
+    let log : l.core.records.scripts.log ≡ s.log = ap (λ (y : LinkState). y.log) k.stands.is in
+    let id : l.core.id ≡ s.id = ap (λ (y : LinkState). y.id) k.stands.is in
+    let keeps = k.holds.scripts.stands.keeps in
+    record {
+      target = whose.0 ∙ ap (λ n. OfLink n) (k.stands.id ∙ id);
+      number = said.0 ∙ ap (λ (y : LogState). starts_in (said_in y.past)) log ∙ sym keeps.starts;
+      not_started = said.1 ∙ ap (λ (y : LogState). not_started_in (said_in y.past)) log ∙ sym keeps.not_started;
+    }

@@ -6,4 +6,3 @@ pub mod TellFacts
 pub mod ReturnFacts
 pub mod GiveFacts
 pub mod LinkFacts
-pub mod PostFacts

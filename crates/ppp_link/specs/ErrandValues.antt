@@ -1,5 +1,5 @@
 -- What contracts see of the errands of a link, and what their counts tell of the outside.
-use Rattle.std.specs.Prelude.{ℕ, ◌+◌, ◌-◌, ◌<◌, ◌≤◌, ◌≡◌, Option, None, Some, List, length, take, ⊤}
+use Rattle.std.specs.Prelude.{ℕ, ◌+◌, ◌-◌, ◌<◌, ◌≤◌, ◌≡◌, Bool, true, false, Option, None, Some, List, length, take, ⊤}
 use Rattle.std.specs.Io.KnownBytes.{Appends, IsAtEnd}
 use Rattle.ppp_hooks.specs.HookCounts.{CountsFrom}
 use Rattle.ppp_outside.specs.Counts.{Rose}
@@ -95,3 +95,8 @@ abbrev pub HasSent : SentEnd → SinkState → SinkState → List ℕ → Type 0
 HasSent sent.All old new octets = Appends old.written new.written octets × (new.faults ≡ old.faults)
 HasSent (sent.Failed count) old new octets =
     (count ≤ length octets) × Appends old.written new.written (take count octets) × Rose old.faults new.faults
+
+-- whether all of a writing went out
+abbrev pub is_all : SentEnd → Bool
+is_all sent.All = true
+is_all (sent.Failed count) = false

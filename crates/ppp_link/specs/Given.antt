@@ -1,5 +1,7 @@
 -- What an errand carries as it is given.
 use Rattle.std.specs.Prelude.{ℕ, ◌≡◌, ◌<◌, Option, Some, List}
+use Rattle.ppp_base.specs.declared.hook_target.HookTarget.TheVariants.{Link}
+use Rattle.ppp_hooks.specs.HookState.{JobState}
 use Rattle.ppp_link_rules.specs.Errands.{octets_given}
 use Rattle.ppp_link_rules.specs.LinkState.{LinkState, control}
 use Rattle.ppp_link.specs.declared.body.LinkBody.{LinkBody}
@@ -26,3 +28,9 @@ pub record IsWritingOf {D I O S : Type 0} (l : LinkBody D I O S) (s : LinkState)
   pub session : writing.session ≡ (control s).session
   pub octets : writing.octets ≡ octets_given s
   pub output : l.output ≡ Some writing.output
+
+-- A job carries whose it is, its number and how many ends before it were no starts.
+pub record IsJobOf {S : Type 0} (s : LinkState) (job : JobState S) : Type 0 where
+  pub target : job.target ≡ Link s.id
+  pub number : job.number ≡ s.scripts.starts
+  pub not_started : job.not_started ≡ s.scripts.not_started

@@ -7,10 +7,10 @@ ghost use Rattle.ppp_link_rules.specs.Errands.{gives_dial, gives_job, gives_read
 ghost use Rattle.ppp_link_rules.specs.LinkState.{LinkState};
 ghost use Rattle.ppp_link_rules.specs.declared.errand.Errand.TheVariants as errand;
 ghost use Rattle.ppp_link_core.specs.Standing.{StandsFor};
-ghost use Rattle.ppp_link_events.specs.Going.{Gives as Gave, Goes};
+ghost use Rattle.ppp_link_events.specs.Going.{Goes};
 ghost use Rattle.ppp_outside.specs.Dialer.{DialerState};
 ghost use Rattle.ppp_outside.specs.Line.{LineState};
-ghost use Rattle.ppp_link.specs.Given.{IsDialOf, IsReadingOf, IsWritingOf};
+ghost use Rattle.ppp_link.specs.Given.{IsDialOf, IsJobOf, IsReadingOf, IsWritingOf};
 ghost use Rattle.ppp_link.specs.Link.{IsLink, IsWhole};
 ghost use Rattle.ppp_link.specs.Steps.{Gives};
 
@@ -21,7 +21,6 @@ use crate::reading::Reading;
 use crate::writing::Writing;
 use ppp_base::UpPost;
 use ppp_hooks::HookJob;
-use ppp_link_core::link_core::LinkCore;
 use ppp_link_events::{errands, looking};
 use ppp_outside::{Dialer, Spawner};
 
@@ -147,6 +146,7 @@ fn give_job<D: Dialer, S: Spawner>(body: &mut LinkBody<D, D::In, D::Out, S>) -> 
     requires whole { IsWhole D.state D.In.state body.old }
     ensures some { (s : LinkState) → IsLink body.old s → gives_job s ≡ is_some result }
     ensures job { IfSome result (λ job. (job.target ≡ OfLink body.old.core.records.id) × (job.number ≡ (told body.old.core.records).starts)) }
+    ensures is { (s : LinkState) → IsLink body.old s → IfSome result (IsJobOf s) }
     ensures words { IfSome result (λ job. words_of_start (OfLink body.old.core.records.id) body.old.core.records.scripts.machine.facts.last ≡ Some job.words) }
     ensures spawner { IfSome result (λ job. body.old.core.records.scripts.machine.spawner ≡ Some job.spawner) }
     ensures gives { OnSome result (Gives with_job_out body.old body.new) }
@@ -157,20 +157,7 @@ fn give_job<D: Dialer, S: Spawner>(body: &mut LinkBody<D, D::In, D::Out, S>) -> 
     errands::give_job(&mut body.core)
 }
 
-// The post to the table that waits longest.
-fn first_post<S: Spawner>(core: &mut LinkCore<S>) -> Option<UpPost>
-    requires goes { Goes core.old }
-    ensures first { core.old.up.waiting ≡ option_to_list result ++ core.new.up.waiting }
-    ensures empty { IfNone result (core.old.up.waiting ≡ []) }
-    ensures gives { OnSome result (Gave with_post_taken core.old core.new) }
-    ensures none { IfNone result (core.new ≡ core.old) }
-    ensures same { core.new.id ≡ core.old.id }
-    ensures goes { Goes core.new }
-{
-    core.up.take()
-}
-
-// The same, of a link, whatever its dialer and its line tell.
+// The post to the table that waits longest, whatever the dialer and the line tell.
 pub(crate) fn give_post<D: Drop, I: Drop, O: Drop, S: Spawner>(
     body: &mut LinkBody<D, I, O, S>,
 ) -> Option<UpPost>
@@ -183,7 +170,7 @@ pub(crate) fn give_post<D: Drop, I: Drop, O: Drop, S: Spawner>(
     ensures same { body.new.core.id ≡ body.old.core.id }
     ensures whole { (dialer_of : D → DialerState) (line_of : I → LineState) → IsWhole dialer_of line_of body.old → IsWhole dialer_of line_of body.new }
 {
-    first_post(&mut body.core)
+    errands::give_post(&mut body.core)
 }
 
 impl<D: Dialer, S: Spawner> Link<D, S> {
@@ -224,6 +211,7 @@ impl<D: Dialer, S: Spawner> Link<D, S> {
     pub fn take_job(&mut self) -> Option<HookJob<S>>
         ensures some { (s : LinkState) → IsLink self.old s → gives_job s ≡ is_some result }
         ensures job { IfSome result (λ job. (job.target ≡ OfLink self.old.core.records.id) × (job.number ≡ (told self.old.core.records).starts)) }
+        ensures is { (s : LinkState) → IsLink self.old s → IfSome result (IsJobOf s) }
         ensures words { IfSome result (λ job. words_of_start (OfLink self.old.core.records.id) self.old.core.records.scripts.machine.facts.last ≡ Some job.words) }
         ensures spawner { IfSome result (λ job. self.old.core.records.scripts.machine.spawner ≡ Some job.spawner) }
         ensures gives { OnSome result (Gives with_job_out self.old self.new) }

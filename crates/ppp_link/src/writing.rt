@@ -1,5 +1,6 @@
 ghost use Rattle.std.specs.Prelude.{◌≡◌, ℕ, ◌<◌, ◌≤◌, ◌-◌, length, take, drop, IfSome};
-ghost use Rattle.ppp_link.specs.ErrandValues.{HasSent, IsSentEnd};
+ghost use Rattle.ppp_link.specs.ErrandValues.{HasSent, IsSentEnd, is_all};
+ghost use Rattle.ppp_outside.specs.Sink.{takes_text};
 
 use ppp_base::{LinkId, Octets};
 use ppp_link_rules::errand::SentEnd;
@@ -46,6 +47,7 @@ impl<O: Sink + Drop> Model for Sent<O> {
 fn write_out<O: Sink>(output: &mut O, octets: &[u8]) -> SentEnd
     ensures sent { HasSent result (O.state output.old) (O.state output.new) octets.now }
     ensures fault { IsSentEnd result (O.state output.new) }
+    ensures as_told { IfSome (O.coming output.old) (λ set. is_all result ≡ takes_text set octets.now) }
 {
     let mut at = 0;
     'writing: while at < octets.len() {
@@ -70,6 +72,7 @@ impl<O: Sink + Drop> Writing<O> {
     pub fn run(self) -> Sent<O>
         ensures same { (result.link ≡ self.link) × (result.session ≡ self.session) }
         ensures sent { HasSent result.end (O.state self.output) (O.state result.output) self.octets }
+        ensures as_told { IfSome (O.coming self.output) (λ set. is_all result.end ≡ takes_text set self.octets) }
     {
         let Writing {
             link,

@@ -1,9 +1,11 @@
 //! Errands are given, and posts to the table are taken.
 
-ghost use Rattle.std.specs.Prelude.{◌≡◌, IfNone, IfSome, OnSome, Some, is_some, option_map, true};
+ghost use Rattle.std.specs.Prelude.{◌≡◌, ◌++◌, [], IfNone, IfSome, OnSome, Some, is_some, option_map, option_to_list, true};
 ghost use Rattle.ppp_base.specs.declared.hook_target.HookTarget.TheVariants.{Link};
 ghost use Rattle.ppp_base.specs.declared.posts.UpPost.{UpPost};
+ghost use Rattle.ppp_hooks.specs.HookPast.{not_started_in, starts_in};
 ghost use Rattle.ppp_hooks.specs.HookWords.{words_of_start};
+ghost use Rattle.ppp_mark.specs.Scripts.{said_in};
 ghost use Rattle.ppp_link_parts.specs.Records.{told};
 ghost use Rattle.ppp_link_parts.specs.UpRing.{value_of};
 ghost use Rattle.ppp_link_rules.specs.Errands.{first_of, gives_job, gives_reading, gives_writing, octets_given, with_dial_out, with_job_out, with_post_taken, with_reading_out, with_writing_out};
@@ -63,6 +65,7 @@ pub fn give_job<S: Spawner>(core: &mut LinkCore<S>) -> Option<HookJob<S>>
     requires goes { Goes core.old }
     ensures some { (s : LinkState) → StandsFor core.old s → gives_job s ≡ is_some result }
     ensures job { IfSome result (λ job. (job.target ≡ Link core.old.records.id) × (job.number ≡ (told core.old.records).starts)) }
+    ensures said { IfSome result (λ job. (job.number ≡ starts_in (said_in core.old.records.scripts.log.past)) × (job.not_started ≡ not_started_in (said_in core.old.records.scripts.log.past))) }
     ensures words { IfSome result (λ job. words_of_start (Link core.old.records.id) core.old.records.scripts.machine.facts.last ≡ Some job.words) }
     ensures spawner { IfSome result (λ job. core.old.records.scripts.machine.spawner ≡ Some job.spawner) }
     ensures gives { OnSome result (Gives with_job_out core.old core.new) }
@@ -77,6 +80,9 @@ pub fn give_job<S: Spawner>(core: &mut LinkCore<S>) -> Option<HookJob<S>>
 pub fn give_post<S: Spawner>(core: &mut LinkCore<S>) -> Option<UpPost>
     requires goes { Goes core.old }
     ensures first { (s : LinkState) → StandsFor core.old s → first_of s.up.waiting ≡ option_map (λ (post : UpPost). value_of post) result }
+    ensures waiting { core.old.up.waiting ≡ option_to_list result ++ core.new.up.waiting }
+    ensures empty { IfNone result (core.old.up.waiting ≡ []) }
+    ensures same { core.new.id ≡ core.old.id }
     ensures gives { OnSome result (Gives with_post_taken core.old core.new) }
     ensures none { IfNone result (core.new ≡ core.old) }
     ensures goes { Goes core.new }

@@ -3,7 +3,7 @@ ghost use Rattle.std.specs.Prelude.{◌≡◌, ℕ, ◌+◌, ◌≤◌, ◌<◌,
 ghost use Rattle.ppp_base.specs.declared.hook_target.HookTarget.TheVariants.{Link};
 ghost use Rattle.ppp_hooks.specs.HookFacts.{settled, with_end, with_open};
 ghost use Rattle.ppp_hooks.specs.HookCounts.{DoneCounts, JobCounts, MachineCounts};
-ghost use Rattle.ppp_hooks.specs.HookPast.{open_in};
+ghost use Rattle.ppp_hooks.specs.HookPast.{not_started_in, open_in, starts_in};
 ghost use Rattle.ppp_hooks.specs.HookWords.{words_of_start};
 ghost use Rattle.ppp_mark.specs.Log.{room_of};
 ghost use Rattle.ppp_mark.specs.ScriptLog.{Grows, IsRunningJob, closed_facts, log_closed, log_ended, log_opened, next_opening};
@@ -51,6 +51,7 @@ impl<S: Spawner> Records<S> {
     pub fn take_job(&mut self) -> Option<HookJob<S>>
         ensures some { is_some result ≡ (is_some (told self.old).running && is_some self.old.scripts.machine.spawner) }
         ensures job { IfSome result (λ job. (job.target ≡ Link self.old.id) × (job.number ≡ (told self.old).starts)) }
+        ensures said { IfSome result (λ job. (job.number ≡ starts_in (said_in self.old.scripts.log.past)) × (job.not_started ≡ not_started_in (said_in self.old.scripts.log.past))) }
         ensures words { IfSome result (λ job. words_of_start (Link self.old.id) self.old.scripts.machine.facts.last ≡ Some job.words) }
         ensures spawner { IfSome result (λ job. self.old.scripts.machine.spawner ≡ Some job.spawner) }
         ensures taken { OnSome result (self.new ≡ record self.old { scripts = record self.old.scripts { machine = record self.old.scripts.machine { spawner = None } } }) }

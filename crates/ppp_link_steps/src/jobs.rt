@@ -2,9 +2,11 @@
 
 ghost use Rattle.std.specs.Prelude.{◌≡◌, ◌≤◌, ◌↔◌, IsOk, IfErr, IfNone, IfSome, OnErr, OnOk, OnSome, Some, is_some};
 ghost use Rattle.ppp_base.specs.declared.hook_target.HookTarget.TheVariants.{Link};
+ghost use Rattle.ppp_hooks.specs.HookPast.{not_started_in, starts_in};
 ghost use Rattle.ppp_hooks.specs.HookWords.{words_of_start};
 ghost use Rattle.ppp_mark.specs.Log.{room_of};
 ghost use Rattle.ppp_mark.specs.ScriptLog.{Grows, IsRunningJob};
+ghost use Rattle.ppp_mark.specs.Scripts.{said_in};
 ghost use Rattle.ppp_link_parts.specs.Records.{told};
 ghost use Rattle.ppp_link_rules.specs.Errands.{gives_job, with_job_out};
 ghost use Rattle.ppp_link_rules.specs.LinkPart.{job_ended};
@@ -24,6 +26,7 @@ pub fn take_job<S: Spawner>(core: &mut LinkCore<S>) -> Option<HookJob<S>>
     requires calm { Calm core.old }
     ensures some { (s : LinkState) → StandsFor core.old s → gives_job s ≡ is_some result }
     ensures job { IfSome result (λ job. (job.target ≡ Link core.old.records.id) × (job.number ≡ (told core.old.records).starts)) }
+    ensures said { IfSome result (λ job. (job.number ≡ starts_in (said_in core.old.records.scripts.log.past)) × (job.not_started ≡ not_started_in (said_in core.old.records.scripts.log.past))) }
     ensures words { IfSome result (λ job. words_of_start (Link core.old.records.id) core.old.records.scripts.machine.facts.last ≡ Some job.words) }
     ensures spawner { IfSome result (λ job. core.old.records.scripts.machine.spawner ≡ Some job.spawner) }
     ensures does { OnSome result (Does with_job_out core.old core.new) }
