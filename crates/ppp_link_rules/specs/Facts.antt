@@ -1,6 +1,5 @@
 -- What is true of a link between two steps, beside what its rules say of each.
--- Every step keeps `ScriptsFollow`, `GoesRight` and, of `TellsTrue`, lcp, auth, scripts, job, dial, reading, writing and part (`ppp_link_facts::laws`); of `MovesBy` it keeps from_new and
--- from_wait. Open is that every step keeps the rest; of that it is shown of a link that has just been made.
+-- Open: that every step of `LinkPart` keeps it. So far it is shown of a link that has just been made.
 use Rattle.std.specs.Prelude.{ℕ, ◌≡◌, ◌≢◌, ◌+◌, ◌<◌, ◌≤◌, ◌&&◌, ◌||◌, not, Bool, true, false, Option, None, Some, is_some, List, [], ◌∷◌, ⊤, IfSome, filter}
 use Rattle.ppp_auth.specs.Outcome.{peer_passed}
 use Rattle.ppp_auth.specs.Phase.{name_of}
