@@ -176,11 +176,11 @@ writing_keeps {O = O} {f = f} {g = g} {l = l} {c = c} e gave goes w = subst (λ 
 
 -- THE JOB
 
-pub job_is : {D I O S A : Type 0} {l : LinkBody D I O S} (job : Option (JobState A)) → IfSome job (λ j. (j.target ≡ OfLink l.core.records.id) × (j.number ≡ (told l.core.records).starts))
+pub job_is : {D I O S A : Type 0} (l : LinkBody D I O S) (job : Option (JobState A)) → IfSome job (λ j. (j.target ≡ OfLink l.core.records.id) × (j.number ≡ (told l.core.records).starts))
     → IfSome job (λ j. (j.number ≡ starts_in (said_in l.core.records.scripts.log.past)) × (j.not_started ≡ not_started_in (said_in l.core.records.scripts.log.past)))
     → (s : LinkState) → IsGoing l.core s → IfSome job (IsJobOf s)
-job_is None whose said s k = tt
-job_is {l = l} (Some j) whose said s k =
+job_is l None whose said s k = tt
+job_is l (Some j) whose said s k =
     let log : l.core.records.scripts.log ≡ s.log = ap (λ (y : LinkState). y.log) k.stands.is in
     let id : l.core.id ≡ s.id = ap (λ (y : LinkState). y.id) k.stands.is in
     let keeps = k.holds.scripts.stands.keeps in
