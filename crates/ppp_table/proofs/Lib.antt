@@ -1,16 +1,16 @@
-mod Apart
-mod Bundles
-mod Comings
-mod Entering
-mod Fitting
-mod Joins
-mod Kept
-mod Members
-mod NewUnits
-mod Places
-mod Steps
-mod Sums
-mod Tellings
+pub mod Apart
+pub mod Bundles
+pub mod Comings
+pub mod Entering
+pub mod Fitting
+pub mod Joins
+pub mod Kept
+pub mod Members
+pub mod NewUnits
+pub mod Places
+pub mod Steps
+pub mod Sums
+pub mod Tellings
 pub mod Together
-mod Ticks
-mod Wholes
+pub mod Ticks
+pub mod Wholes

@@ -24,4 +24,6 @@ mod verdict;
 pub use counting::TableCounts;
 pub use event::TableEvent;
 pub use ppp_table_parts::deliveries::Delivery;
+pub use stays::Stay;
 pub use table::Table;
+pub use verdict::Verdict;

@@ -6,11 +6,12 @@ use ppp_base::{LinkId, Unit};
 use ppp_bundle::{Bundle, Member};
 use ppp_outside::Spawner;
 
-// A stay of a link, and the unit in which it is a member.
+/// A stay of a link, and the unit in which it is a member.
 #[derive(Clone, Copy)]
-pub(crate) struct Stay {
-    pub(crate) unit: Unit,
-    pub(crate) stay: u32,
+pub struct Stay {
+    pub unit: Unit,
+    /// Its number, from 1 on.
+    pub stay: u32,
 }
 
 // The stay of a link, where it is among these members.

@@ -14,11 +14,14 @@ use ppp_table_parts::terms::{JoinTerms, same_mrru};
 // So many marks may follow when a bundle is made.
 const ROOM_OF_A_BUNDLE: u32 = 1_024;
 
-// What becomes of a Join: it joins the bundle of a unit, makes one there, or is refused.
+/// What becomes of a Join: it joins the bundle of a unit, makes one there, or is refused.
 #[derive(Clone, Copy)]
-pub(crate) enum Verdict {
+pub enum Verdict {
+    /// It joins the bundle of this unit.
     Joins(Unit),
+    /// A bundle is made in this unit.
     Makes(Unit),
+    /// It is refused.
     Refuses(Refusal),
 }
 

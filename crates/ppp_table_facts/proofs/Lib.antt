@@ -1,0 +1,10 @@
+pub mod Scripts
+pub mod Pieces
+pub mod Owing
+pub mod Events
+pub mod UnitSteps
+pub mod TableSteps
+pub mod PostSteps
+pub mod Came
+pub mod Gives
+pub mod Bare

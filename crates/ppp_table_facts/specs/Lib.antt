@@ -1,0 +1,2 @@
+pub mod TableStands
+pub mod Came
