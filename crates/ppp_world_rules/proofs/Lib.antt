@@ -1,0 +1,4 @@
+pub mod Places
+pub mod LinkRuns
+pub mod CarryRuns
+pub mod Runs

@@ -1,0 +1,9 @@
+pub mod Place
+pub mod Turns
+pub mod NewMarks
+pub mod Units
+pub mod Carries
+pub mod Router
+pub mod WorldPart
+pub mod Run
+pub mod Headline
