@@ -61,8 +61,8 @@ left_stands p k = either TurnStands (wants_line p.link) (λ e. k) (λ e. over_st
 sends_stands : (how : SentEnd) (p : PlaceState) → PlaceStands p → TurnStands (sends how p)
 sends_stands how p k =
     either TurnStands (gives_writing p.link)
-        (λ e. event_stands (Flushed p.link.id (control p.link).session how) (with_writing_out p.link) (writing_stands p.link e k))
-        (λ e. k)
+    (λ e. event_stands (Flushed p.link.id (control p.link).session how) (with_writing_out p.link) (writing_stands p.link e k))
+    (λ e. k)
 
 hook_stands : (j : Option JobOut) (number : ℕ) (answer : ScriptEnd) (p : PlaceState) → PlaceStands p → TurnStands (hook_by j number answer p)
 hook_stands None number answer p k = k

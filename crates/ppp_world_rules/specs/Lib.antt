@@ -7,3 +7,4 @@ pub mod Router
 pub mod WorldPart
 pub mod Run
 pub mod Headline
+pub mod Rows

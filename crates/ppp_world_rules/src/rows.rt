@@ -1,0 +1,40 @@
+//! Worked traces of one link, by the definitions alone.
+
+ghost use Rattle.std.specs.Prelude.{◌≡◌, true, false, None, Some, [], ◌∷◌};
+ghost use Rattle.ppp_base.specs.declared.signal_word.SignalWord.TheVariants.{Term};
+ghost use Rattle.ppp_fsm.specs.declared.fsm.Limits.{Limits};
+ghost use Rattle.ppp_link_rules.specs.Rows.{nomagic, usual};
+ghost use Rattle.ppp_mark.specs.Marks.{mark};
+ghost use Rattle.ppp_outside.specs.declared.spawner.ScriptEnd.TheVariants.{Exit};
+ghost use Rattle.ppp_trace.specs.declared.world_step.WorldStep.TheVariants.{Begin, DialFail, DialOk, Hook, LineEnd, LineLeft, Rx, RxAt, SentFail, SentOk, Word};
+ghost use Rattle.ppp_world_rules.specs.Rows.{after_steps, first_link, told_by};
+ghost use Rattle.ppp_world_rules.specs.Turns.{turn_of};
+
+/// The dial fails, without a signal to stop before it and with one.
+pub fn a_dial_that_fails()
+    ensures begins { (limits : Limits) → told_by (Begin 1) (first_link limits usual) ≡ mark 0 1 0 0 1 ∷ [] }
+    ensures fails { (limits : Limits) → told_by (DialFail 1) (after_steps (Begin 1 ∷ []) (first_link limits usual)) ≡ mark 0 15 1 0 1 ∷ mark 0 16 0 0 1 ∷ mark 0 19 7 0 0 ∷ [] }
+    ensures signal { (limits : Limits) → told_by (Word 1 Term) (after_steps (Begin 1 ∷ []) (first_link limits usual)) ≡ mark 0 14 3 0 0 ∷ mark 0 15 11 3 1 ∷ [] }
+    ensures stopped { (limits : Limits) → told_by (DialOk 1) (after_steps (Begin 1 ∷ Word 1 Term ∷ []) (first_link limits usual)) ≡ mark 0 16 0 0 1 ∷ mark 0 19 5 0 0 ∷ [] }
+{}
+
+/// The line comes, the first request is written, and the line ends.
+pub fn a_line_that_ends()
+    ensures comes { (limits : Limits) → told_by (DialOk 1) (after_steps (Begin 1 ∷ []) (first_link limits nomagic)) ≡ mark 0 2 0 0 1 ∷ [] }
+    ensures sent { (limits : Limits) → (turn_of (SentOk 1) (after_steps (Begin 1 ∷ DialOk 1 ∷ []) (first_link limits nomagic))).written
+        ≡ Some (0x7e ∷ 0xff ∷ 0x7d ∷ 0x23 ∷ 0xc0 ∷ 0x21 ∷ 0x7d ∷ 0x21 ∷ 0x7d ∷ 0x21 ∷ 0x7d ∷ 0x20 ∷ 0x7d ∷ 0x2e ∷ 0x7d ∷ 0x22 ∷ 0x7d ∷ 0x26 ∷ 0x7d ∷ 0x20 ∷ 0x7d ∷ 0x20
+        ∷ 0x7d ∷ 0x20 ∷ 0x7d ∷ 0x20 ∷ 0x7d ∷ 0x27 ∷ 0x7d ∷ 0x22 ∷ 0x7d ∷ 0x28 ∷ 0x7d ∷ 0x22 ∷ 0x70 ∷ 0x34 ∷ 0x7e ∷ []) }
+    ensures lost { (limits : Limits) → (turn_of (SentFail 1) (after_steps (Begin 1 ∷ DialOk 1 ∷ []) (first_link limits nomagic))).written ≡ None }
+    ensures ended { (limits : Limits) → told_by (LineEnd 1) (after_steps (Begin 1 ∷ DialOk 1 ∷ SentOk 1 ∷ []) (first_link limits nomagic)) ≡ mark 0 15 10 0 1 ∷ mark 0 16 0 0 1 ∷ mark 0 19 16 0 0 ∷ [] }
+{}
+
+/// Octets without a line, of another session or at another offset, a line that is left while it is wanted, and the end of a script
+/// that isn't out are stale. Octets at their place are taken.
+pub fn what_is_stale()
+    ensures no_line { (limits : Limits) → (turn_of (Rx 1 (0x7e ∷ [])) (after_steps (Begin 1 ∷ []) (first_link limits nomagic))).taken ≡ false }
+    ensures session { (limits : Limits) → (turn_of (RxAt 1 2 0 (0x7e ∷ [])) (after_steps (Begin 1 ∷ DialOk 1 ∷ []) (first_link limits nomagic))).taken ≡ false }
+    ensures offset { (limits : Limits) → (turn_of (RxAt 1 1 1 (0x7e ∷ [])) (after_steps (Begin 1 ∷ DialOk 1 ∷ []) (first_link limits nomagic))).taken ≡ false }
+    ensures present { (limits : Limits) → (turn_of (RxAt 1 1 1 (0x7e ∷ [])) (after_steps (Begin 1 ∷ DialOk 1 ∷ Rx 1 (0x7e ∷ []) ∷ []) (first_link limits nomagic))).taken ≡ true }
+    ensures wanted { (limits : Limits) → (turn_of (LineLeft 1) (after_steps (Begin 1 ∷ DialOk 1 ∷ []) (first_link limits nomagic))).taken ≡ false }
+    ensures script { (limits : Limits) → (turn_of (Hook 1 1 (Exit 0)) (after_steps (Begin 1 ∷ DialOk 1 ∷ []) (first_link limits nomagic))).taken ≡ false }
+{}
