@@ -6,5 +6,8 @@ pub mod Carries
 pub mod Router
 pub mod WorldPart
 pub mod Run
+pub mod TraceRun
 pub mod Headline
 pub mod Rows
+pub mod TraceText
+pub mod Summary

@@ -1,14 +1,18 @@
-//! Worked traces of one link, by the definitions alone.
+//! Worked traces of one link, and what is printed of steps, by the definitions alone.
 
-ghost use Rattle.std.specs.Prelude.{◌≡◌, true, false, None, Some, [], ◌∷◌};
+ghost use Rattle.std.specs.Prelude.{◌≡◌, true, false, None, Some, [], ◌∷◌, codes};
 ghost use Rattle.ppp_base.specs.declared.signal_word.SignalWord.TheVariants.{Term};
 ghost use Rattle.ppp_fsm.specs.declared.fsm.Limits.{Limits};
 ghost use Rattle.ppp_link_rules.specs.Rows.{nomagic, usual};
 ghost use Rattle.ppp_mark.specs.Marks.{mark};
 ghost use Rattle.ppp_outside.specs.declared.spawner.ScriptEnd.TheVariants.{Exit};
-ghost use Rattle.ppp_trace.specs.declared.world_step.WorldStep.TheVariants.{Begin, DialFail, DialOk, Hook, LineEnd, LineLeft, Rx, RxAt, SentFail, SentOk, Word};
+ghost use Rattle.ppp_trace.specs.declared.world_step.WorldStep.TheVariants.{Begin, Carry, DialFail, DialOk, Hook, LineEnd, LineLeft, Rx, RxAt, SentFail, SentOk, Word};
 ghost use Rattle.ppp_world_rules.specs.Rows.{after_steps, first_link, told_by};
+ghost use Rattle.ppp_world_rules.specs.Router.{link_mark, unit_mark};
+ghost use Rattle.ppp_world_rules.specs.Summary.{summary_line};
+ghost use Rattle.ppp_world_rules.specs.TraceText.{run_text, step_text};
 ghost use Rattle.ppp_world_rules.specs.Turns.{turn_of};
+ghost use Rattle.ppp_world_rules.specs.WorldPart.{silent};
 
 /// The dial fails, without a signal to stop before it and with one.
 pub fn a_dial_that_fails()
@@ -37,4 +41,17 @@ pub fn what_is_stale()
     ensures present { (limits : Limits) → (turn_of (RxAt 1 1 1 (0x7e ∷ [])) (after_steps (Begin 1 ∷ DialOk 1 ∷ Rx 1 (0x7e ∷ []) ∷ []) (first_link limits nomagic))).taken ≡ true }
     ensures wanted { (limits : Limits) → (turn_of (LineLeft 1) (after_steps (Begin 1 ∷ DialOk 1 ∷ []) (first_link limits nomagic))).taken ≡ false }
     ensures script { (limits : Limits) → (turn_of (Hook 1 1 (Exit 0)) (after_steps (Begin 1 ∷ DialOk 1 ∷ []) (first_link limits nomagic))).taken ≡ false }
+{}
+
+/// What is printed of a step: its number and whether it was taken, the new marks of links and then of units, the octets that a link
+/// wrote, and the datagrams that units gave. A writing that fails prints no octets.
+pub fn what_is_printed()
+    ensures begins { run_text 1 (Begin 1 ∷ []) (record { answer = silent true; marks = link_mark 1 (mark 0 1 0 0 1) ∷ []; given = [] } ∷ []) ≡ codes "1 taken\n link 1 0 attempt 0 0 1\n" }
+    ensures stale { step_text 2 (DialOk 1) (record { answer = silent false; marks = []; given = [] }) ≡ codes "2 stale\n" }
+    ensures written { step_text 3 (SentOk 16) (record { answer = record { taken = true; written = Some (0x7e ∷ 0xff ∷ 0x05 ∷ []) }; marks = []; given = [] }) ≡ codes "3 taken\n link 16 out 7eff05\n" }
+    ensures lost { step_text 4 (SentFail 1) (record { answer = silent true; marks = link_mark 1 (mark 0 15 9 0 1) ∷ []; given = [] }) ≡ codes "4 taken\n link 1 0 cause 9 0 1\n" }
+    ensures order { step_text 5 (Carry 2) (record { answer = silent true; marks = link_mark 2 (mark 30 11 0 0 1) ∷ unit_mark 0 (mark 7 33 2 0 1) ∷ []; given = record { head = 0; octets = 0x45 ∷ [] } ∷ record { head = 15; octets = [] } ∷ [] })
+        ≡ codes "5 taken\n link 2 30 member 0 0 1\n unit 0 7 in 2 0 1\n unit 0 give 45\n unit 15 give\n" }
+    ensures summary { summary_line (record { answer = silent true; marks = link_mark 1 (mark 0 1 0 0 1) ∷ []; given = [] } ∷ record { answer = silent false; marks = []; given = [] } ∷ [])
+        ≡ codes "steps 2 taken 1 stale 1 marks 1 given 0\n" }
 {}
