@@ -1,18 +1,23 @@
 //! Worked traces of one link, and what is printed of steps, by the definitions alone.
 
-ghost use Rattle.std.specs.Prelude.{◌≡◌, true, false, None, Some, [], ◌∷◌, codes};
+ghost use Rattle.std.specs.Prelude.{◌≡◌, ◌-◌, ℕ, true, false, None, Some, [], ◌∷◌, codes, slice_get, slice_set};
 ghost use Rattle.ppp_base.specs.declared.signal_word.SignalWord.TheVariants.{Term};
+ghost use Rattle.ppp_bundle.specs.State.{UnitState};
 ghost use Rattle.ppp_fsm.specs.declared.fsm.Limits.{Limits};
 ghost use Rattle.ppp_link_rules.specs.Rows.{nomagic, usual};
+ghost use Rattle.ppp_mark.specs.declared.mark.Mark.{Mark};
 ghost use Rattle.ppp_mark.specs.Marks.{mark};
+ghost use Rattle.ppp_outside.specs.declared.replay_spawner.ReplaySpawner.{ReplaySpawner};
 ghost use Rattle.ppp_outside.specs.declared.spawner.ScriptEnd.TheVariants.{Exit};
 ghost use Rattle.ppp_trace.specs.declared.world_step.WorldStep.TheVariants.{Begin, Carry, DialFail, DialOk, Hook, LineEnd, LineLeft, Rx, RxAt, SentFail, SentOk, Word};
-ghost use Rattle.ppp_world_rules.specs.Rows.{after_steps, first_link, told_by};
-ghost use Rattle.ppp_world_rules.specs.Router.{link_mark, unit_mark};
+ghost use Rattle.ppp_world_rules.specs.Rows.{after_steps, first_link, stepped, told_by, with_marks};
+ghost use Rattle.ppp_trace.specs.declared.world_step.WorldStep.{WorldStep};
+ghost use Rattle.ppp_world_rules.specs.Place.{PlaceState};
+ghost use Rattle.ppp_world_rules.specs.Router.{Router, link_mark, unit_mark};
 ghost use Rattle.ppp_world_rules.specs.Summary.{summary_line};
 ghost use Rattle.ppp_world_rules.specs.TraceText.{run_text, step_text};
 ghost use Rattle.ppp_world_rules.specs.Turns.{turn_of};
-ghost use Rattle.ppp_world_rules.specs.WorldPart.{silent};
+ghost use Rattle.ppp_world_rules.specs.WorldPart.{Answer, LinkStep, new_marks, silent};
 
 /// The dial fails, without a signal to stop before it and with one.
 pub fn a_dial_that_fails()
@@ -52,6 +57,18 @@ pub fn what_is_printed()
     ensures lost { step_text 4 (SentFail 1) (record { answer = silent true; marks = link_mark 1 (mark 0 15 9 0 1) ∷ []; given = [] }) ≡ codes "4 taken\n link 1 0 cause 9 0 1\n" }
     ensures order { step_text 5 (Carry 2) (record { answer = silent true; marks = link_mark 2 (mark 30 11 0 0 1) ∷ unit_mark 0 (mark 7 33 2 0 1) ∷ []; given = record { head = 0; octets = 0x45 ∷ [] } ∷ record { head = 15; octets = [] } ∷ [] })
         ≡ codes "5 taken\n link 2 30 member 0 0 1\n unit 0 7 in 2 0 1\n unit 0 give 45\n unit 15 give\n" }
+    ensures new { (r : Router) (p : PlaceState) (u : UnitState ReplaySpawner) (a b m n : Mark)
+        → new_marks (with_marks (a ∷ []) (b ∷ []) p u r) (with_marks (m ∷ a ∷ []) (n ∷ b ∷ []) p u r) ≡ link_mark 1 m ∷ unit_mark 0 n ∷ [] }
     ensures summary { summary_line (record { answer = silent true; marks = link_mark 1 (mark 0 1 0 0 1) ∷ []; given = [] } ∷ record { answer = silent false; marks = []; given = [] } ∷ [])
         ≡ codes "steps 2 taken 1 stale 1 marks 1 given 0\n" }
+{}
+
+/// A step of a link that the options have is what the worked traces go by: its event, and then its errands are taken out. All else
+/// stays as it is.
+pub fn what_a_step_of_a_link_leaves()
+    ensures link { (link : ℕ) (step : WorldStep) (old new : Router) (answer : Answer) (p : PlaceState) → slice_get old.links (link - 1) ≡ Some p → LinkStep link step old new answer
+        → new ≡ record old { links = slice_set old.links (link - 1) (stepped step p) } }
+    ensures answer { (link : ℕ) (step : WorldStep) (old new : Router) (answer : Answer) (p : PlaceState) → slice_get old.links (link - 1) ≡ Some p → LinkStep link step old new answer
+        → answer ≡ record { taken = (turn_of step p).taken; written = (turn_of step p).written } }
+    ensures none { (link : ℕ) (step : WorldStep) (old new : Router) (answer : Answer) → slice_get old.links (link - 1) ≡ None → LinkStep link step old new answer → (new ≡ old) × (answer ≡ silent false) }
 {}

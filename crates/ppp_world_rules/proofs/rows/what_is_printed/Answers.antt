@@ -26,3 +26,6 @@ returns-clause-order c = refl
 pub returns-clause-summary : goal.returns-clause-summary
 unfolding digits
 returns-clause-summary c = refl
+
+pub returns-clause-new : goal.returns-clause-new
+returns-clause-new c r p u a b m n = refl
